@@ -1,0 +1,10 @@
+//! Names, safe paths and decimal numbers: the small texts that everything in a store is named by.
+#![tactic(auto)]
+
+mod decimal;
+mod fault;
+mod name;
+
+pub use decimal::write_decimal;
+pub use fault::TextFault;
+pub use name::{Name, is_name, is_package_name};
