@@ -4,6 +4,7 @@
 mod decimal;
 mod fault;
 mod name;
+mod path;
 
 pub use decimal::write_decimal;
 pub use fault::TextFault;
