@@ -1,11 +1,10 @@
 -- The segments of a text are taken off from its front, and joined behind a slash.
-use Rattle.std.proofs.Common.{◌≡◌, ℕ, ◌<◌, ◌≤◌, ◌+◌, ◌-◌, ◌⊎◌, inl, inr, Bool, true, false, not, ◌&&◌, ◌||◌, ◌==◌, cond, eqb, ltb, leb, List, [], ◌∷◌, ◌++◌, length, take, drop, get_or, Option, Some, None, refl, ap, sym, ◌∙◌, arith, length-take-le}
-use Rattle.std.specs.List.{list_all, list_any, position, position_or_len, slice_split, All, onto_first}
+use Rattle.std.proofs.Common.{◌≡◌, ℕ, ◌<◌, ◌≤◌, ◌+◌, ◌-◌, inl, inr, false, not, ◌==◌, List, [], ◌∷◌, length, take, drop, Option, Some, None, ap, sym, ◌∙◌, arith, length-take-le}
+use Rattle.std.specs.List.{position, position_or_len, All}
 use Rattle.std.proofs.lemmas.List.{take_all, length-drop, drop-drop}
 use Rattle.std.proofs.lemmas.List.Splits.{slice_split_first, slice_split_none}
 use Rattle.std.proofs.lemmas.List.Sums.{fails_before_first, prefix_len-le-length}
 use Rattle.std.proofs.lemmas.Bool.{cases_lt, cond_below}
-use Rattle.std.proofs.lemmas.Bool.Decides.{nat_tests}
 use Rattle.ap_text.specs.Paths.{segments, bad_place_in, bad_place_from, at_or_later}
 
 some_is_none : (n : ℕ) → Some n ≡ None → ⊥
@@ -59,8 +58,7 @@ later_after text rest whole start n e at h le so =
     let none : bad_place_in (take (slash_at rest) rest) ≡ None = ap (λ m. bad_place_in (take m rest)) (sym at) ∙ h in
     let here : whole ≡ bad_place_from start (segments rest) = so ∙ ap (λ (l : List ℕ). bad_place_from start (segments l)) (sym e) in
     let long : length rest ≡ length text - start = ap length e ∙ length-drop start text in
-    let left : drop (n + 1) rest ≡ drop (start + (n + 1)) text = ap (drop (n + 1)) e ∙ drop-drop (n + 1) start text in
-    (
-    λ fits. here ∙ bad_place_later start rest (omega arith) none ∙ ap (λ m. bad_place_from (start + (m + 1)) (segments (drop (m + 1) rest))) (sym at) ∙ ap (λ (l : List ℕ). bad_place_from (start + (n + 1)) (segments l)) left,
-    λ past. here ∙ bad_place_nowhere start rest (omega arith) none
+    let left : drop (n + 1) rest ≡ drop (start + (n + 1)) text = ap (drop (n + 1)) e ∙ drop-drop (n + 1) start text in (
+      λ fits. here ∙ bad_place_later start rest (omega arith) none ∙ ap (λ m. bad_place_from (start + (m + 1)) (segments (drop (m + 1) rest))) (sym at) ∙ ap (λ (l : List ℕ). bad_place_from (start + (n + 1)) (segments l)) left,
+      λ past. here ∙ bad_place_nowhere start rest (omega arith) none,
     )

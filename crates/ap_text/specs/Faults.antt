@@ -12,13 +12,6 @@ IsNameFault text TooLong = 200 < length text
 IsNameFault text (BadByte place) = (text ≢ []) × (length text ≤ 200) × (bad_place_of_name text ≡ Some place)
 IsNameFault text OutOfMemory = IsTrue (is_name text)
 
--- the same, of a text that is no name
-abbrev pub IsOwnNameFault : List ℕ → TextFault → Type 0
-IsOwnNameFault text Empty = text ≡ []
-IsOwnNameFault text TooLong = 200 < length text
-IsOwnNameFault text (BadByte place) = (text ≢ []) × (length text ≤ 200) × (bad_place_of_name text ≡ Some place)
-IsOwnNameFault text OutOfMemory = ⊥
-
 abbrev pub IsPathFault : List ℕ → TextFault → Type 0
 IsPathFault text Empty = text ≡ []
 IsPathFault text TooLong = (text ≢ []) × IsTrue (is_too_long text)

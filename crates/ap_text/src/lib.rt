@@ -9,3 +9,4 @@ mod path;
 pub use decimal::write_decimal;
 pub use fault::TextFault;
 pub use name::{Name, is_name, is_package_name};
+pub use path::{SafePath, is_safe_path};

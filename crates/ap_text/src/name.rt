@@ -2,7 +2,7 @@ ghost use Rattle.std.specs.Prelude.{◌≡◌, ◌<◌, ◌↔◌, length, IsTru
 ghost use Rattle.std.specs.List.{position, list_all};
 ghost use Rattle.std.specs.Ordering.{nat_cmp};
 ghost use Rattle.std.specs.Cmp.Lexicographic.{slice_cmp};
-ghost use Rattle.ap_text.specs.Faults.{IsNameFault, IsOwnNameFault};
+ghost use Rattle.ap_text.specs.Faults.{IsNameFault};
 ghost use Rattle.ap_text.specs.Names.{is_alphanumeric as alphanumeric, is_name_byte as name_byte, is_name as name, is_package_name as package_name, bad_place_of_name};
 
 use crate::fault::TextFault;
@@ -47,7 +47,7 @@ fn bad_place(bytes: &[u8]) -> Option<usize>
 
 /// The fault of a text as a name, want of memory apart.
 fn fault_of(text: &str) -> Option<TextFault>
-    ensures fault { IfSome result (IsOwnNameFault text.now) }
+    ensures fault { IfSome result (IsNameFault text.now) }
     ensures good { is_some result ≡ not (name text.now) }
 {
     let bytes = text.as_bytes();
