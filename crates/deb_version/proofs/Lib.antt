@@ -1,0 +1,3 @@
+pub mod CutSteps
+pub mod Epochs
+pub mod Numbers
