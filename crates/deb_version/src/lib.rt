@@ -5,6 +5,8 @@ mod laws;
 mod order;
 mod parts;
 mod runs;
+#[cfg(test)]
+mod tests;
 mod text;
 
 pub use laws::version_order_is_total;

@@ -4,6 +4,8 @@
 mod difference;
 mod facts;
 mod hasher;
+#[cfg(test)]
+mod tests;
 mod written;
 
 pub use difference::mismatch;
