@@ -1,11 +1,11 @@
 -- The cuts of a part, from its front.
-use Rattle.std.proofs.Common.{◌≡◌, ℕ, suc, ◌+◌, ◌<◌, ◌≤◌, Bool, true, false, cond, List, [], ◌∷◌, ◌++◌, length, take, drop, refl, sym, ap, ◌∙◌, arith, Ordering, Less, Equal, Greater, ◌≢◌}
-use Rattle.std.specs.List.{prefix_len, flat_map}
+use Rattle.std.proofs.Common.{◌≡◌, ℕ, suc, ◌+◌, ◌<◌, ◌≤◌, Bool, true, false, cond, List, [], ◌∷◌, length, take, drop, refl, sym, ap, ◌∙◌, arith, Ordering, Less, Equal, Greater, ◌≢◌}
+use Rattle.std.specs.List.{prefix_len}
 use Rattle.std.specs.Char.{digit_value}
 use Rattle.std.specs.Str.Parse.{AllDigits}
 use Rattle.std.proofs.lemmas.Bool.Decides.{nat_tests}
 use Rattle.std.specs.Ordering.{ordering_then}
-use Rattle.deb_version.specs.Cuts.{Cut, is_digit, is_non_digit, front, after, first_cut, later, with_front, cuts, padded_cmp, cut_cmp, no_cut, part_cmp}
+use Rattle.deb_version.specs.Cuts.{is_digit, is_non_digit, front, after, first_cut, later, with_front, cuts, padded_cmp, cut_cmp, no_cut, part_cmp}
 
 pub front_is : (p : ℕ → Bool) (xs : List ℕ) → take (prefix_len p xs) xs ≡ front p xs
 front_is p [] = refl
@@ -36,24 +36,6 @@ cuts_by c (d ∷ ds) true h = digit_first c d ds h (is_digit d) refl (cuts_by d 
 
 pub cuts_step : (c : ℕ) (cs : List ℕ) → cuts (c ∷ cs) ≡ first_cut (c ∷ cs) ∷ cuts (later (c ∷ cs))
 cuts_step c cs = cuts_by c cs (is_digit c) refl
-
-joined_digit : (c : ℕ) (run digits : List ℕ) (ps : List Cut) → is_digit c ≡ true → flat_map (λ (p : Cut). p.run ++ p.digits) (with_front c (record { run = run; digits = digits } ∷ ps)) ≡ c ∷ (run ++ digits ++ flat_map (λ (p : Cut). p.run ++ p.digits) ps)
-joined_digit c [] digits ps h = simp h
-joined_digit c (r ∷ rs) digits ps h = simp h
-
-joined_by : (c : ℕ) (ps : List Cut) (b : Bool) → is_digit c ≡ b → flat_map (λ (p : Cut). p.run ++ p.digits) (with_front c ps) ≡ c ∷ flat_map (λ (p : Cut). p.run ++ p.digits) ps
-joined_by c [] true h = simp h
-joined_by c [] false h = simp h
-joined_by c (p ∷ ps) false h = simp h
-joined_by c (p ∷ ps) true h = joined_digit c p.run p.digits ps h
-
-joined_front : (c : ℕ) (ps : List Cut) → flat_map (λ (p : Cut). p.run ++ p.digits) (with_front c ps) ≡ c ∷ flat_map (λ (p : Cut). p.run ++ p.digits) ps
-joined_front c ps = joined_by c ps (is_digit c) refl
-
--- the part is its cuts, joined
-pub cuts_joined : (cs : List ℕ) → flat_map (λ (p : Cut). p.run ++ p.digits) (cuts cs) ≡ cs
-cuts_joined [] = refl
-cuts_joined (c ∷ cs) = joined_front c (cuts cs) ∙ ap (λ l. c ∷ l) (cuts_joined cs)
 
 first_none : Equal ≡ ordering_then (cut_cmp (first_cut []) (first_cut [])) (padded_cmp cut_cmp no_cut (cuts (later [])) (cuts (later [])))
 unfolding first_cut later
@@ -111,9 +93,6 @@ unfolding part_cmp
 part_cmp_none [] [] p q = refl
 part_cmp_none (x ∷ xs) b p q = cc
 part_cmp_none [] (y ∷ ys) p q = cc
-
-pub compare_first_is : (a b : List ℕ) → AllDigits 10 (front is_digit (after is_non_digit a))
-compare_first_is a b = front_digits (after is_non_digit a)
 
 -- the first cuts decide where they differ
 pub part_cmp_stops : (a b : List ℕ) (o : Ordering) → o ≡ cut_cmp (first_cut a) (first_cut b) → o ≢ Equal → o ≡ part_cmp a b
