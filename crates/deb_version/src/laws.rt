@@ -1,11 +1,11 @@
 //! Laws of the order of versions.
 
-ghost use Rattle.std.specs.Prelude.{◌≡◌, ℕ, List};
+ghost use Rattle.std.specs.Prelude.{◌≡◌, ℕ, List, IsTrue, codes};
 ghost use Rattle.std.specs.Ordering.{ordering_reverse};
 ghost use Rattle.std.specs.declared.cmp.Ordering.TheVariants.{Less, Equal};
 ghost use Rattle.deb_version.specs.Cuts.{cuts};
 ghost use Rattle.deb_version.specs.VersionOrder.{version_cmp};
-ghost use Rattle.deb_version.specs.VersionText.{epoch_of, upstream_of, revision_of};
+ghost use Rattle.deb_version.specs.VersionText.{epoch_of, upstream_of, revision_of, is_version};
 ghost use Rattle.deb_version.specs.Spelling.{spelled, joined, HasNoEarlierColon, HasNoLaterHyphen, TakesTurns};
 
 /// The order of versions is total: it answers the other way round for the other order of its arguments, it is
@@ -28,4 +28,11 @@ pub fn version_is_spelled_by_its_parts()
 pub fn version_part_is_made_of_its_cuts()
     ensures joined { (part : List ℕ) → joined (cuts part) ≡ part }
     ensures turns { (part : List ℕ) → TakesTurns (cuts part) }
+{}
+
+/// Versions that are equal in their order may be other texts.
+pub fn equal_versions_may_differ_as_texts()
+    ensures first { IsTrue (is_version (codes "1.0")) }
+    ensures second { IsTrue (is_version (codes "1.00")) }
+    ensures equal { version_cmp (codes "1.0") (codes "1.00") ≡ Equal }
 {}

@@ -7,13 +7,18 @@ use crate::text::Version;
 use crate::{parts, runs};
 use std::cmp::Ordering;
 
-/// What one version is asked to be beside another (Debian Policy 7.1): `<<`, `<=`, `=`, `>=`, `>>`.
+/// What one version is asked to be beside another (Debian Policy 7.1).
 #[derive(Clone, Copy, Debug, PartialEq, Eq)]
 pub enum Relation {
+    /// `<<`: before the other.
     Earlier,
+    /// `<=`: before the other, or equal to it in the order of versions.
     EarlierEqual,
+    /// `=`: equal to the other in the order of versions.
     Equal,
+    /// `>=`: behind the other, or equal to it in the order of versions.
     LaterEqual,
+    /// `>>`: behind the other.
     Later,
 }
 
