@@ -21,7 +21,7 @@ any_parts p (x ∷ xs) ys h =
     let r = any_parts p xs ys q.1 in
     (rw q.0 r.0, r.1)
 
-any_join : (p : ℕ → Bool) (xs ys : List ℕ) → list_any p xs ≡ false → list_any p ys ≡ false → list_any p (xs ++ ys) ≡ false
+pub any_join : (p : ℕ → Bool) (xs ys : List ℕ) → list_any p xs ≡ false → list_any p ys ≡ false → list_any p (xs ++ ys) ≡ false
 any_join p [] ys h g = g
 any_join p (x ∷ xs) ys h g = let q = or_parts (p x) (list_any p xs) h in rw q.0 (any_join p xs ys q.1 g)
 
@@ -29,7 +29,7 @@ pub one_line : (v : List ℕ) → has_line_end v ≡ false → value_lines v ≡
 one_line [] h = refl
 one_line (c ∷ cs) h = let q = or_parts (c == 10) (has_line_end cs) h in rw q.0 (ap (begun c) (one_line cs q.1))
 
-begun_push : (c : ℕ) (ls : List (List ℕ)) (l : List ℕ) → (ls ≡ [] → ⊥) → begun c (ls ++ l ∷ []) ≡ begun c ls ++ l ∷ []
+pub begun_push : (c : ℕ) (ls : List (List ℕ)) (l : List ℕ) → (ls ≡ [] → ⊥) → begun c (ls ++ l ∷ []) ≡ begun c ls ++ l ∷ []
 begun_push c [] l h = absurd (h refl)
 begun_push c (m ∷ ms) l h = refl
 

@@ -4,4 +4,5 @@ pub mod FieldLemmas
 pub mod Found
 pub mod Only
 pub mod Least
+pub mod WriteLemmas
 pub mod Laws
