@@ -6,6 +6,8 @@ mod fault;
 mod line;
 mod read;
 mod stanza;
+#[cfg(test)]
+mod tests;
 mod text;
 mod write;
 
