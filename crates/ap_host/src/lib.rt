@@ -1,0 +1,14 @@
+//! The outside of a store: its folder and its output, as one log of operations.
+#![tactic(auto)]
+
+mod bytes;
+mod host;
+mod laws;
+mod mem;
+mod names;
+mod table;
+
+pub use bytes::Bytes;
+pub use host::{Host, HostErr, Op};
+pub use laws::{law_of_barrier, law_of_live_image, law_of_phases, law_of_untouched};
+pub use mem::MemHost;
