@@ -6,6 +6,7 @@ mod host;
 mod laws;
 mod mem;
 mod names;
+mod ordinals;
 mod table;
 
 pub use bytes::Bytes;
