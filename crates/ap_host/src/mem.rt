@@ -7,8 +7,8 @@ ghost use Rattle.ap_host.specs.Disk.{live_step, live_of};
 ghost use Rattle.ap_host.specs.Calls.{Added, Does, HasCause, Reads, Rose};
 ghost use Rattle.ap_host.specs.Names.{NamesOf};
 ghost use Rattle.ap_host.specs.Table.{files_of, IsOnce, SameFiles};
-ghost use Rattle.ap_host.specs.Ordinals.{is_due};
-ghost use Rattle.ap_host.specs.Mem.{MemState, MemDoes, MemReads, log_of, stood};
+ghost use Rattle.ap_host.specs.Ordinals.{is_due, FailsInTurn};
+ghost use Rattle.ap_host.specs.Mem.{MemState, MemDoes, log_of, stood};
 
 use crate::bytes::Bytes;
 use crate::host::{Host, HostErr, Op};
@@ -136,7 +136,8 @@ impl Host for MemHost {
         ensures length { IfOk result (λ n. n ≡ option_map length (live_of (log_of self.old) path.now)) }
         ensures log { log_of self.new ≡ log_of self.old }
         ensures cause { HasCause self.old.calls.faults self.new.calls.faults result }
-        ensures state { MemReads result self.old self.new }
+        ensures turn { FailsInTurn Failed result self.old.calls }
+        ensures state { self.new ≡ stood self.old }
         ensures memory { IsErrOf result OutOfMemory → ⊥ }
     {
         if self.fails() {
@@ -150,7 +151,8 @@ impl Host for MemHost {
         ensures read { IfOk result (λ n. Reads (live_of (log_of self.old) path.now) at out.new n) }
         ensures log { log_of self.new ≡ log_of self.old }
         ensures cause { HasCause self.old.calls.faults self.new.calls.faults result }
-        ensures state { MemReads result self.old self.new }
+        ensures turn { FailsInTurn Failed result self.old.calls }
+        ensures state { self.new ≡ stood self.old }
         ensures memory { IsErrOf result OutOfMemory → ⊥ }
     {
         if self.fails() {
@@ -163,7 +165,8 @@ impl Host for MemHost {
         ensures names { IfOk result (λ v. NamesOf folder.now (live_of (log_of self.old)) v.items) }
         ensures log { log_of self.new ≡ log_of self.old }
         ensures cause { HasCause self.old.calls.faults self.new.calls.faults result }
-        ensures state { MemReads result self.old self.new }
+        ensures turn { FailsInTurn Failed result self.old.calls }
+        ensures state { self.new ≡ stood self.old }
     {
         if self.fails() {
             return Err(HostErr::Failed);
