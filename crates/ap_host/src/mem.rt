@@ -1,14 +1,19 @@
 // A host in memory. It tells its log, and fails at the calls that it is told to.
-ghost use Rattle.std.specs.Prelude.{◌≡◌, ◌≤◌, ℕ, [], ◌∷◌, ◌++◌, Some, IsTrue, IfOk, OnOk, OnErr, IsErrOf};
-ghost use Rattle.ap_host.specs.declared.host.HostErr.TheVariants.{Failed};
-ghost use Rattle.ap_host.specs.Disk.{live_step};
-ghost use Rattle.ap_host.specs.Calls.{Rose};
+ghost use Rattle.std.specs.Prelude.{◌≡◌, ◌≤◌, ℕ, [], ◌∷◌, ◌++◌, length, not, Some, IsTrue, IsSome, IfOk, OnOk, OnErr, IsErrOf, option_map};
+ghost use Rattle.std.specs.Option.{ForSome};
+ghost use Rattle.ap_host.specs.declared.host.HostErr.TheVariants.{Failed, OutOfMemory};
+ghost use Rattle.ap_host.specs.declared.host.Op.TheVariants.{Create, Append, Sync, Rename, Remove, Barrier, Say, Claim};
+ghost use Rattle.ap_host.specs.Disk.{live_step, live_of};
+ghost use Rattle.ap_host.specs.Calls.{Added, Does, HasCause, Reads, Rose};
+ghost use Rattle.ap_host.specs.Names.{NamesOf};
 ghost use Rattle.ap_host.specs.Table.{files_of, IsOnce, SameFiles};
-ghost use Rattle.ap_host.specs.Mem.{MemState, SameButCounts, log_of};
+ghost use Rattle.ap_host.specs.Ordinals.{is_due, FailsInTurn};
+ghost use Rattle.ap_host.specs.Mem.{MemState, MemDoes, log_of, stood};
 
 use crate::bytes::Bytes;
 use crate::host::{Host, HostErr, Op};
 use crate::names::names_below;
+use crate::ordinals::Ordinals;
 use crate::table::{
     copy_entries, empty_file, extend_file, length_of, read_file, remove_file, rename_file,
 };
@@ -16,16 +21,15 @@ use ap_text::SafePath;
 use std::alloc::{AllocError, Global};
 use std::marker::Model;
 
+/// A host in memory. It tells its log; the calls at given ordinals fail, as those of a real disk may.
 #[derive(Drop)]
 pub struct MemHost {
     alloc: Global,
     base: Vec<(SafePath, Bytes)>,
     ops: Vec<Op>,
     table: Vec<(SafePath, Bytes)>,
-    failing: Vec<u64>,
     taken: bool,
-    calls: u64,
-    faults: u64,
+    calls: Ordinals,
 }
 
 impl Model for MemHost {
@@ -33,14 +37,7 @@ impl Model for MemHost {
 
     ghost Value = { MemState };
 
-    ghost view = { λ m. record {
-      base = m.base.items;
-      ops = m.ops.items;
-      failing = m.failing.items;
-      taken = m.taken;
-      calls = m.calls;
-      faults = m.faults;
-    } };
+    ghost view = { λ m. record { base = m.base.items; ops = m.ops.items; taken = m.taken; calls = m.calls } };
 
     ghost invariant = { λ m. IsTableOf m.base.items m.table.items m.ops.items };
 }
@@ -63,7 +60,8 @@ fn apply(alloc: Global, table: &mut Vec<(SafePath, Bytes)>, op: &Op) -> Result<(
 }
 
 impl MemHost {
-    /// A host with these files. The calls at these ordinals fail.
+    /// A host that holds these files, each path once, for sure. The calls whose ordinals are in `failing`, counted from 0
+    /// over all calls, fail. Where it is `taken`, another run has the store, and `claim` answers false.
     pub fn new(
         alloc: Global,
         base: Vec<(SafePath, Bytes)>,
@@ -71,7 +69,7 @@ impl MemHost {
         taken: bool,
     ) -> Result<MemHost, AllocError>
         requires { IsOnce base.items }
-        ensures { IfOk result (λ m. m ≡ record { base = base.items; ops = []; failing = failing.items; taken = taken; calls = 0; faults = 0 }) }
+        ensures { IfOk result (λ m. m ≡ record { base = base.items; ops = []; taken = taken; calls = record { failing = failing.items; next = 0; faults = 0 } }) }
     {
         let table = copy_entries(alloc, &base)?;
         Ok(MemHost {
@@ -79,13 +77,12 @@ impl MemHost {
             base,
             ops: Vec::new(alloc),
             table,
-            failing,
             taken,
-            calls: 0,
-            faults: 0,
+            calls: Ordinals::new(failing),
         })
     }
 
+    /// All operations so far, the oldest first.
     pub fn log(&self) -> &[Op]
         ensures { result.now ≡ self.now.ops }
     {
@@ -94,17 +91,12 @@ impl MemHost {
 
     /// Counts a call, and says whether it is to fail.
     fn fails(&mut self) -> bool
-        ensures same { SameButCounts self.old self.new }
-        ensures later { self.old.faults ≤ self.new.faults }
-        ensures rose { IsTrue result → Rose self.old.faults self.new.faults }
+        ensures due { result ≡ is_due self.old.calls }
+        ensures state { self.new ≡ stood self.old }
+        ensures later { self.old.calls.faults ≤ self.new.calls.faults }
+        ensures rose { IsTrue result → Rose self.old.calls.faults self.new.calls.faults }
     {
-        let at = self.calls;
-        self.calls = at.saturating_add(1);
-        if at < u64::MAX && self.failing.as_slice().contains(&at) {
-            self.faults = self.faults.saturating_add(1);
-            return true;
-        }
-        false
+        self.calls.fails()
     }
 
     /// Does an operation.
@@ -123,9 +115,15 @@ impl MemHost {
 impl Host for MemHost {
     ghost log = { λ m. Some (log_of m) };
 
-    ghost faults = { λ m. m.faults };
+    ghost faults = { λ m. m.calls.faults };
 
-    fn claim(&mut self) -> Result<bool, HostErr> {
+    fn claim(&mut self) -> Result<bool, HostErr>
+        ensures got { IfOk result (λ got. got ≡ not self.old.taken) }
+        ensures log { IfOk result (λ got. Added (Claim got ∷ []) (Some (log_of self.old)) (Some (log_of self.new))) }
+        ensures err { OnErr result (Added [] (Some (log_of self.old)) (Some (log_of self.new))) }
+        ensures cause { HasCause self.old.calls.faults self.new.calls.faults result }
+        ensures state { MemDoes (Claim (not self.old.taken)) result self.old self.new }
+    {
         if self.fails() {
             return Err(HostErr::Failed);
         }
@@ -134,28 +132,53 @@ impl Host for MemHost {
         Ok(got)
     }
 
-    fn length(&mut self, path: &SafePath) -> Result<Option<u64>, HostErr> {
+    fn length(&mut self, path: &SafePath) -> Result<Option<u64>, HostErr>
+        ensures length { IfOk result (λ n. n ≡ option_map length (live_of (log_of self.old) path.now)) }
+        ensures log { log_of self.new ≡ log_of self.old }
+        ensures cause { HasCause self.old.calls.faults self.new.calls.faults result }
+        ensures turn { FailsInTurn Failed result self.old.calls }
+        ensures state { self.new ≡ stood self.old }
+        ensures memory { IsErrOf result OutOfMemory → ⊥ }
+    {
         if self.fails() {
             return Err(HostErr::Failed);
         }
         Ok(length_of(&self.table, path))
     }
 
-    fn read_at(&mut self, path: &SafePath, at: u64, out: &mut [u8]) -> Result<usize, HostErr> {
+    fn read_at(&mut self, path: &SafePath, at: u64, out: &mut [u8]) -> Result<usize, HostErr>
+        ensures bound { IfOk result (λ n. n ≤ length out.new) }
+        ensures read { IfOk result (λ n. Reads (live_of (log_of self.old) path.now) at out.new n) }
+        ensures log { log_of self.new ≡ log_of self.old }
+        ensures cause { HasCause self.old.calls.faults self.new.calls.faults result }
+        ensures turn { FailsInTurn Failed result self.old.calls }
+        ensures state { self.new ≡ stood self.old }
+        ensures memory { IsErrOf result OutOfMemory → ⊥ }
+    {
         if self.fails() {
             return Err(HostErr::Failed);
         }
         Ok(read_file(&self.table, path, at, out))
     }
 
-    fn names(&mut self, folder: &SafePath) -> Result<Vec<SafePath>, HostErr> {
+    fn names(&mut self, folder: &SafePath) -> Result<Vec<SafePath>, HostErr>
+        ensures names { IfOk result (λ v. NamesOf folder.now (live_of (log_of self.old)) v.items) }
+        ensures log { log_of self.new ≡ log_of self.old }
+        ensures cause { HasCause self.old.calls.faults self.new.calls.faults result }
+        ensures turn { FailsInTurn Failed result self.old.calls }
+        ensures state { self.new ≡ stood self.old }
+    {
         if self.fails() {
             return Err(HostErr::Failed);
         }
         Ok(names_below(self.alloc, &self.table, folder)?)
     }
 
-    fn create(&mut self, path: &SafePath) -> Result<(), HostErr> {
+    fn create(&mut self, path: &SafePath) -> Result<(), HostErr>
+        ensures log { Does (Create path.now) result (Some (log_of self.old)) (Some (log_of self.new)) }
+        ensures cause { HasCause self.old.calls.faults self.new.calls.faults result }
+        ensures state { MemDoes (Create path.now) result self.old self.new }
+    {
         if self.fails() {
             return Err(HostErr::Failed);
         }
@@ -163,18 +186,27 @@ impl Host for MemHost {
         self.enact(Op::Create(path))
     }
 
-    fn append(&mut self, path: &SafePath, bytes: &[u8]) -> Result<(), HostErr> {
-        let path = path.copy(self.alloc)?;
+    fn append(&mut self, path: &SafePath, bytes: &[u8]) -> Result<(), HostErr>
+        ensures log { Does (Append path.now bytes.now) result (Some (log_of self.old)) (Some (log_of self.new)) }
+        ensures cause { HasCause self.old.calls.faults self.new.calls.faults result }
+        ensures state { MemDoes (Append path.now bytes.now) result self.old self.new }
+    {
         if self.fails() {
+            let path = path.copy(self.alloc)?;
             let half = Bytes::new(self.alloc, &bytes[..bytes.len() / 2])?;
             self.enact(Op::Append(path, half))?;
             return Err(HostErr::Failed);
         }
+        let path = path.copy(self.alloc)?;
         let bytes = Bytes::new(self.alloc, bytes)?;
         self.enact(Op::Append(path, bytes))
     }
 
-    fn sync(&mut self, path: &SafePath) -> Result<(), HostErr> {
+    fn sync(&mut self, path: &SafePath) -> Result<(), HostErr>
+        ensures log { Does (Sync path.now) result (Some (log_of self.old)) (Some (log_of self.new)) }
+        ensures cause { HasCause self.old.calls.faults self.new.calls.faults result }
+        ensures state { MemDoes (Sync path.now) result self.old self.new }
+    {
         if self.fails() {
             return Err(HostErr::Failed);
         }
@@ -182,7 +214,11 @@ impl Host for MemHost {
         self.enact(Op::Sync(path))
     }
 
-    fn rename(&mut self, from: &SafePath, to: &SafePath) -> Result<(), HostErr> {
+    fn rename(&mut self, from: &SafePath, to: &SafePath) -> Result<(), HostErr>
+        ensures log { Does (Rename from.now to.now) result (Some (log_of self.old)) (Some (log_of self.new)) }
+        ensures cause { HasCause self.old.calls.faults self.new.calls.faults result }
+        ensures state { MemDoes (Rename from.now to.now) result self.old self.new }
+    {
         if self.fails() {
             return Err(HostErr::Failed);
         }
@@ -191,7 +227,11 @@ impl Host for MemHost {
         self.enact(Op::Rename(from, to))
     }
 
-    fn remove(&mut self, path: &SafePath) -> Result<(), HostErr> {
+    fn remove(&mut self, path: &SafePath) -> Result<(), HostErr>
+        ensures log { Does (Remove path.now) result (Some (log_of self.old)) (Some (log_of self.new)) }
+        ensures cause { HasCause self.old.calls.faults self.new.calls.faults result }
+        ensures state { MemDoes (Remove path.now) result self.old self.new }
+    {
         if self.fails() {
             return Err(HostErr::Failed);
         }
@@ -199,14 +239,22 @@ impl Host for MemHost {
         self.enact(Op::Remove(path))
     }
 
-    fn barrier(&mut self) -> Result<(), HostErr> {
+    fn barrier(&mut self) -> Result<(), HostErr>
+        ensures log { Does Barrier result (Some (log_of self.old)) (Some (log_of self.new)) }
+        ensures cause { HasCause self.old.calls.faults self.new.calls.faults result }
+        ensures state { MemDoes Barrier result self.old self.new }
+    {
         if self.fails() {
             return Err(HostErr::Failed);
         }
         self.enact(Op::Barrier)
     }
 
-    fn say(&mut self, bytes: &[u8]) -> Result<(), HostErr> {
+    fn say(&mut self, bytes: &[u8]) -> Result<(), HostErr>
+        ensures log { Does (Say bytes.now) result (Some (log_of self.old)) (Some (log_of self.new)) }
+        ensures cause { HasCause self.old.calls.faults self.new.calls.faults result }
+        ensures state { MemDoes (Say bytes.now) result self.old self.new }
+    {
         if self.fails() {
             let half = Bytes::new(self.alloc, &bytes[..bytes.len() / 2])?;
             self.enact(Op::Say(half))?;
