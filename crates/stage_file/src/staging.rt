@@ -69,7 +69,8 @@ impl Stage {
         let number = self.next;
         self.next = number.wrapping_add(1);
         self.touched = true;
-        let path = SafePath::numbered(self.alloc, FOLDER, number)?;
+        let folder = SafePath::fixed(self.alloc, FOLDER)?;
+        let path = SafePath::numbered(self.alloc, &folder, number)?;
         lay_at(host, &path, bytes)?;
         Ok(StageName { path })
     }
