@@ -1,20 +1,20 @@
 -- The clearing of the folder of staged files.
-use Rattle.std.proofs.Common.{◌≡◌, ◌≢◌, ◌⊎◌, inl, inr, ℕ, zero, suc, ◌+◌, ◌<◌, ◌≤◌, Bool, true, false, List, [], ◌∷◌, ◌++◌, length, Option, Some, None, IsSome, IsTrue, Result, Ok, Err, OnOk, slice_get, refl, sym, ◌∙◌, ap, subst, append_assoc, append-nil, arith}
+use Rattle.std.proofs.Common.{◌≡◌, ◌≢◌, ◌⊎◌, inl, inr, ℕ, zero, suc, ◌+◌, ◌<◌, List, [], ◌∷◌, ◌++◌, Option, Some, None, IsSome, IsTrue, Result, Ok, Err, OnOk, slice_get, refl, sym, ◌∙◌, ap, subst, arith}
 use Rattle.std.specs.List.{AllByRecursion}
-use Rattle.std.specs.Cmp.Lexicographic.{slice_cmp, nat_list_cmp_total}
-use Rattle.std.specs.Ordering.{nat_cmp, ordering_reverse}
+use Rattle.std.specs.Cmp.Lexicographic.{nat_list_cmp_total}
+use Rattle.std.specs.Ordering.{ordering_reverse}
 use Rattle.std.specs.declared.cmp.Ordering.TheVariants.{Less, Greater}
 use Rattle.ap_host.specs.declared.host.Op.{Op}
 use Rattle.ap_host.specs.declared.host.Op.TheVariants.{Create, Append, Sync, Rename, Remove, Barrier, Say, Claim}
 use Rattle.ap_host.specs.declared.host.HostErr.{HostErr}
-use Rattle.ap_host.specs.Disk.{Path, Content, Files, with_file, Log, extended, live_of, disk_of, Disk, step, Throughout}
+use Rattle.ap_host.specs.Disk.{Path, Content, with_file, Log, extended, live_of, disk_of, Disk, Throughout}
 use Rattle.ap_host.specs.Calls.{Did}
 use Rattle.ap_host.specs.Changes.{EachOp}
 use Rattle.ap_host.specs.Names.{Before, IsAscending, IsOneOf, NamesOf}
 use Rattle.ap_host.proofs.DiskLemmas.{one, two, same_path, with_file-same, with_file-other, disk_of-step, extended-append, extended-none}
 use Rattle.ap_host.proofs.ChangeLemmas.{EachOp-append, EachOp-front, part_each, did_part}
 use Rattle.stage_file.specs.Stage.{folder, is_staged, ClearsStaged, Clears, ClearsFirst, IsMarked, StageState}
-use Rattle.stage_file.proofs.StageLemmas.{live_step_of, on_ok}
+use Rattle.stage_file.proofs.StageLemmas.{live_step_of}
 
 not_before_itself : (p : Path) → Before p p → ⊥
 not_before_itself p h = let clash : Less ≡ Greater = sym h ∙ nat_list_cmp_total.antisymm p p ∙ ap ordering_reverse h in cc

@@ -1,15 +1,15 @@
 -- The operations of a staged file, and what a log is after them.
-use Rattle.std.proofs.Common.{◌≡◌, ◌≢◌, ◌⊎◌, inl, inr, ℕ, List, [], ◌∷◌, ◌++◌, Option, Some, None, IsSome, IsFalse, IsTrue, Bool, MatchBool, true, false, Result, Ok, Err, OnOk, option_map, refl, sym, ◌∙◌, ap, subst, append_assoc, append-nil, take, drop, length, length-append, ◌≤◌, ◌<◌, ◌+◌, ◌-◌, min, arith}
+use Rattle.std.proofs.Common.{◌≡◌, ◌≢◌, ◌⊎◌, inl, inr, ℕ, List, [], ◌∷◌, ◌++◌, Option, Some, None, IsSome, IsFalse, IsTrue, Bool, MatchBool, true, false, Result, Ok, Err, OnOk, option_map, refl, sym, ◌∙◌, ap, subst, append_assoc, append-nil, take, drop, length, length-append, ◌≤◌, ◌<◌, ◌+◌, ◌-◌, arith}
 use Rattle.std.proofs.Math.Seq.{take-add}
 use Rattle.std.proofs.lemmas.List.{length-take}
 use Rattle.std.specs.List.{AllByRecursion}
 use Rattle.ap_host.specs.declared.host.Op.{Op}
 use Rattle.ap_host.specs.declared.host.Op.TheVariants.{Create, Append, Sync, Rename, Remove, Barrier, Say, Claim}
 use Rattle.ap_host.specs.declared.host.HostErr.{HostErr}
-use Rattle.ap_host.specs.Disk.{Path, Content, Log, extended, live_of, disk_of, Disk, step, Durable, IsSure, Throughout}
+use Rattle.ap_host.specs.Disk.{Path, Content, Log, extended, live_of, disk_of, Disk, step, Durable, Throughout}
 use Rattle.ap_host.specs.Calls.{Added, Did}
-use Rattle.ap_host.specs.Changes.{TouchesOnly, EachOp, SameExcept, GoesOn}
-use Rattle.ap_host.specs.Phases.{IsSynced, Touches}
+use Rattle.ap_host.specs.Changes.{TouchesOnly, EachOp, GoesOn}
+use Rattle.ap_host.specs.Phases.{IsSynced}
 use Rattle.ap_host.proofs.DiskLemmas.{with_file-same, moved-to, disk_of-step, extended-append, extended-none, Throughout-map}
 use Rattle.ap_host.proofs.ChangeLemmas.{EachOp-append, EachOp-map, IsPart, part_each, part_moments, did_part, did_ok}
 use Rattle.ap_host.proofs.LegalLemmas.{law_of_barrier}

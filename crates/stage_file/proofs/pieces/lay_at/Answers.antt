@@ -1,4 +1,4 @@
-use Rattle.std.proofs.Common.{◌≡◌, IsSome, Some, [], ◌++◌, refl}
+use Rattle.std.proofs.Common.{IsSome, [], ◌++◌, refl}
 use Rattle.std.proofs.lemmas.Result.{err_from_is_err_and}
 use Rattle.ap_host.specs.declared.host.Op.TheVariants.{Create, Sync}
 use Rattle.ap_host.specs.Disk.{live_of}

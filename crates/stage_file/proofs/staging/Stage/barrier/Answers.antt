@@ -1,11 +1,11 @@
-use Rattle.std.proofs.Common.{◌≡◌, [], IsTrue, Result, Ok, Err, refl, sym, ap, ◌∙◌, subst}
+use Rattle.std.proofs.Common.{◌≡◌, IsTrue, Result, Ok, Err, sym, ap, ◌∙◌, subst}
 use Rattle.std.proofs.lemmas.Result.{err_from_is_err_and}
 use Rattle.ap_host.specs.declared.host.Op.TheVariants.{Barrier}
 use Rattle.ap_host.specs.declared.host.HostErr.{HostErr}
 use Rattle.ap_host.specs.Changes.{GoesOn}
-use Rattle.ap_host.proofs.ChangeLemmas.{does, GoesOn-map, GoesOn-none}
+use Rattle.ap_host.proofs.ChangeLemmas.{does, GoesOn-map}
 use Rattle.stage_file.specs.Stage.{StageState, Barriers}
-use Rattle.stage_file.proofs.StageLemmas.{barriers_made, barriers_left, ran}
+use Rattle.stage_file.proofs.StageLemmas.{barriers_made, ran}
 use Rattle.stage_file.proofs.staging.Stage.barrier.Goals as goal
 
 pub returns-in_err-barrier-clause-log : goal.returns-in_err-barrier-clause-log

@@ -1,13 +1,11 @@
-use Rattle.std.proofs.Common.{◌≡◌, List, ℕ, [], ◌++◌, Some, IsSome, slice_get, inl, inr, refl, sym, ap, ◌∙◌, subst, arith}
+use Rattle.std.proofs.Common.{List, [], ◌++◌, IsSome, inl, inr, refl, sym, ap, ◌∙◌, subst, arith}
 use Rattle.std.proofs.lemmas.Result.{err_from_is_err_and}
 use Rattle.std.proofs.lemmas.Option.{slice_get_read, slice_get_within}
 use Rattle.std.specs.Option.{ForSome}
-use Rattle.ap_host.specs.declared.host.Op.TheVariants.{Remove}
-use Rattle.ap_host.specs.Disk.{Path, Log, live_of, extended}
-use Rattle.ap_host.specs.Changes.{EachOp}
+use Rattle.ap_host.specs.Disk.{Path, live_of}
 use Rattle.ap_host.specs.Names.{NamesOf}
 use Rattle.ap_host.proofs.ChangeLemmas.{GoesOn-then, GoesOn-map, GoesOn-none, GoesOn-given, GoesOn-end, EachOp-append}
-use Rattle.stage_file.specs.Stage.{StageState, folder, ClearsStaged, ClearsFirst}
+use Rattle.stage_file.specs.Stage.{StageState, folder, ClearsStaged}
 use Rattle.stage_file.proofs.ClearLemmas.{clears_err, clears_none, listed, still_there, removed_staged, clears_more, clears_all}
 use Rattle.stage_file.proofs.staging.Stage.clear.Goals as goal
 

@@ -15,5 +15,5 @@ remove-requires g c =
     GoesOn-end _ _ _ (λ l. IsSome (live_of l c.in_ok-path.path))
     (GoesOn-then _ _ _ _ _ (λ l a. IsSome (live_of (extended a l) c.in_ok-path.path)) c.in_ok-name.ensures.log c.in_ok-place.ensures.log
     (λ l a b w x. subst (λ (m : Log). IsSome (live_of m c.in_ok-path.path)) (extended-append a b l)
-        (is_some _ _ (x.placed ∙ ap (λ (p : List ℕ). live_of (extended a l) p) c.in_ok-name.ensures.name ∙ w.laid.live))))
+    (is_some _ _ (x.placed ∙ ap (λ (p : List ℕ). live_of (extended a l) p) c.in_ok-name.ensures.name ∙ w.laid.live))))
     (λ l a h. h)
