@@ -13,13 +13,13 @@ use std::alloc::{AllocError, Global};
 use std::collections::BTreeSet;
 use std::marker::Model;
 
-/// So many fields are compared one by one. Most stanzas have fewer, and need no set of names.
+/// Fewer fields than these are compared one by one. Most stanzas have no more, and need no set of names.
 const FEW: usize = 32;
 
 /// A stanza that grows. Contracts see its fields.
 ///
 /// The names of its first fields stand in lower case in an ordered set, so that a name is found among many fields in
-/// little time. Of the fields behind them, `FEW` at most, each is compared.
+/// little time. Of the fields behind them, fewer than `FEW`, each is compared.
 #[derive(Debug, Drop)]
 pub(crate) struct Gathered {
     stanza: Stanza,
