@@ -1,0 +1,5 @@
+pub mod CutLaws
+pub mod CutSteps
+pub mod Epochs
+pub mod Numbers
+pub mod Spelled

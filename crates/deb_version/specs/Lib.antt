@@ -1,0 +1,5 @@
+pub mod Cuts
+pub mod VersionText
+pub mod VersionOrder
+pub mod OrderLaws
+pub mod Spelling
