@@ -1,0 +1,11 @@
+//! Relation fields of packages: what they depend on, conflict with and provide (Debian Policy 7.1, 7.5).
+#![tactic(auto)]
+
+mod alternative;
+mod fault;
+mod phase;
+mod pieces;
+mod state;
+
+pub use alternative::{Alternative, Group};
+pub use fault::DependsFault;
