@@ -5,6 +5,7 @@ mod alternative;
 mod fault;
 mod phase;
 mod pieces;
+mod read;
 mod state;
 
 pub use alternative::{Alternative, Group};

@@ -1,7 +1,7 @@
 ghost use Rattle.std.specs.Prelude.{◌≡◌, ◌<◌, ◌≤◌, ◌==◌, ◌||◌, length, slice_index};
 ghost use Rattle.std.specs.List.{prefix_len, list_all};
 ghost use Rattle.ap_text.specs.Names.{is_alphanumeric as alphanumeric, is_name_byte as name_byte};
-ghost use Rattle.depends_field.specs.Pieces.{is_blank as blank, is_version_byte as version_byte, is_word_byte as word_byte, operator_len as longest_operator, piece_len as len_of_piece, inside_after as after_piece};
+ghost use Rattle.depends_field.specs.Pieces.{is_blank as blank, is_version_byte as version_byte, is_word_byte as word_byte, operator_len as longest_operator, piece_len as len_of_piece, inside_after as after_piece, front};
 
 /// Whether a byte is a space, a tab or a line end.
 pub fn is_blank(b: u8) -> bool
@@ -82,7 +82,7 @@ fn operator_len(text: &[u8]) -> usize
 
 /// The length of the piece at the front.
 #[tactic(auto, unfolding(crate::specs::Pieces::piece_len))]
-pub fn piece_len(inside: bool, text: &[u8]) -> usize
+fn piece_len(inside: bool, text: &[u8]) -> usize
     requires { 0 < length text.now }
     ensures { result ≡ len_of_piece inside text.now }
 {
@@ -96,6 +96,17 @@ pub fn piece_len(inside: bool, text: &[u8]) -> usize
         return operator_len(text);
     }
     1
+}
+
+/// The piece at the front.
+pub fn first_piece(inside: bool, text: &[u8]) -> &[u8]
+    requires { 0 < length text.now }
+    ensures piece { result.now ≡ front inside text.now }
+    ensures some { 0 < length result.now }
+    ensures len { length result.now ≡ len_of_piece inside text.now }
+    ensures within { length result.now ≤ length text.now }
+{
+    &text[..piece_len(inside, text)]
 }
 
 /// Whether what follows a piece stands in parentheses.
