@@ -109,7 +109,7 @@ more_blank p text hp ht = list_all-append is_blank p text ∙ and_from (list_all
 
 -- blanks may be put before
 
-blank_alternative : (kind : Kind) (p text : List ℕ) (a : Alternative) → AllBlank p → AlternativeText kind text a → AlternativeText kind (p ++ text) a
+pub blank_alternative : (kind : Kind) (p text : List ℕ) (a : Alternative) → AllBlank p → AlternativeText kind text a → AlternativeText kind (p ++ text) a
 blank_alternative kind p text a h t = record {
   before = p ++ t.before;
   qualifier = t.qualifier;
