@@ -1,4 +1,5 @@
 pub mod Cuts
 pub mod Found
 pub mod FoundGroups
+pub mod Walks
 pub mod Words
