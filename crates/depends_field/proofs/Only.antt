@@ -37,7 +37,7 @@ named_base kind name = record { ends = refl; rests = refl; opens = refl; on = re
 parted_base : (kind : Kind) (base : Alternative) → IsBase kind (Parted base) base
 parted_base kind base = record { ends = refl; rests = refl; opens = refl; on = refl }
 
-blank_not_name : (b : ℕ) → is_blank b ≡ true → is_name_byte b ≡ false
+pub blank_not_name : (b : ℕ) → is_blank b ≡ true → is_name_byte b ≡ false
 blank_not_name b h = grind (arith, nat_tests)
 
 blank_not_operator : (b : ℕ) → is_blank b ≡ true → is_operator_byte b ≡ false
@@ -52,7 +52,7 @@ pub record ToBase (kind : Kind) (s : Read) (phase : Phase) (base : Alternative) 
   pub is : IsBase kind next base
   pub walk : Walk kind false (with_phase s phase) text false (with_phase s next) rest
 
-base_blanks : (kind : Kind) (s : Read) (phase : Phase) (base : Alternative) (w rest : List ℕ) → IsBase kind phase base → AllBlank w → is_blank (get_or rest 0 0) ≡ false → ToBase kind s phase base (w ++ rest) rest
+pub base_blanks : (kind : Kind) (s : Read) (phase : Phase) (base : Alternative) (w rest : List ℕ) → IsBase kind phase base → AllBlank w → is_blank (get_or rest 0 0) ≡ false → ToBase kind s phase base (w ++ rest) rest
 base_blanks kind s phase base [] rest is all stop = record { next = phase; is = is; walk = no_walk kind false (with_phase s phase) rest }
 base_blanks kind s phase base (b ∷ w) rest is all stop = record {
   next = Parted base;
@@ -75,7 +75,7 @@ unfolding qualified
 arch_is kind name w h other =
     cond-false (is_any w) _ _ (false_from_ne_true (is_any w) (λ e. other (same_bytes w (codes "any") e))) ∙ cond-true (is_architecture w) _ _ h
 
-qualifier_walk : (kind : Kind) (s : Read) (name qualifier : List ℕ) (arch : Option (List ℕ)) (rest : List ℕ) → QualifierText qualifier arch → is_name_byte (get_or rest 0 0) ≡ false → ToBase kind s (Named name) (record { name = name; arch = arch; relation = None }) (qualifier ++ rest) rest
+pub qualifier_walk : (kind : Kind) (s : Read) (name qualifier : List ℕ) (arch : Option (List ℕ)) (rest : List ℕ) → QualifierText qualifier arch → is_name_byte (get_or rest 0 0) ≡ false → ToBase kind s (Named name) (record { name = name; arch = arch; relation = None }) (qualifier ++ rest) rest
 qualifier_walk kind s name qualifier None rest (inl none) stop = record {
   next = Named name;
   is = named_base kind name;
@@ -104,7 +104,7 @@ closing_not_version = refl
 opened_then : (b o t v c rest : List ℕ) → (40 ∷ (b ++ (o ++ (t ++ (v ++ (c ++ 41 ∷ [])))))) ++ rest ≡ 40 ∷ (b ++ (o ++ (t ++ (v ++ (c ++ 41 ∷ rest)))))
 opened_then b o t v c rest = simp append_assoc
 
-restriction_walk : (kind : Kind) (s : Read) (phase : Phase) (base : Alternative) (relation : Relation) (version restriction rest : List ℕ) → IsBase kind phase base → Restricts kind restriction relation version → Walk kind false (with_phase s phase) (restriction ++ rest) false (with_phase s (Closed (with_relation base relation version))) rest
+pub restriction_walk : (kind : Kind) (s : Read) (phase : Phase) (base : Alternative) (relation : Relation) (version restriction rest : List ℕ) → IsBase kind phase base → Restricts kind restriction relation version → Walk kind false (with_phase s phase) (restriction ++ rest) false (with_phase s (Closed (with_relation base relation version))) rest
 restriction_walk kind s phase base relation version restriction rest is r =
     let whole = with_relation base relation version in
     let t5 : List ℕ = 41 ∷ rest in
