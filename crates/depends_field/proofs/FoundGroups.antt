@@ -444,7 +444,7 @@ at_end kind s groups sane g = end_by kind s groups (is_start s.phase) (ended s.p
 
 -- all of the text
 
-run_first : (kind : Kind) (ps : List (List ℕ)) (o : Option Read) (t : Read) → option_and_then (λ u. run kind u ps) o ≡ Some t → (u : Read) × (o ≡ Some u) × (run kind u ps ≡ Some t)
+pub run_first : (kind : Kind) (ps : List (List ℕ)) (o : Option Read) (t : Read) → option_and_then (λ u. run kind u ps) o ≡ Some t → (u : Read) × (o ≡ Some u) × (run kind u ps ≡ Some t)
 run_first kind ps None t e = cc
 run_first kind ps (Some u) t e = (u, refl, e)
 

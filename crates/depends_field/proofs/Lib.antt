@@ -4,5 +4,6 @@ pub mod FoundGroups
 pub mod Only
 pub mod OnlyGroups
 pub mod Operators
+pub mod Unique
 pub mod Walks
 pub mod Words

@@ -2,3 +2,4 @@ pub mod Pieces
 pub mod Reading
 pub mod Groups
 pub mod Faults
+pub mod Places
