@@ -62,11 +62,11 @@ base_blanks kind s phase base (b ∷ w) rest is all stop = record {
 
 -- the qualifier
 
-architecture_name : (w : List ℕ) → is_architecture w ≡ true → is_name w ≡ true
+pub architecture_name : (w : List ℕ) → is_architecture w ≡ true → is_name w ≡ true
 unfolding is_architecture
 architecture_name w h = (and_parts (is_name w) _ h).0
 
-any_is : (kind : Kind) (name : List ℕ) → advanced kind (Colon name) (codes "any") ≡ Some (Parted (plain name))
+pub any_is : (kind : Kind) (name : List ℕ) → advanced kind (Colon name) (codes "any") ≡ Some (Parted (plain name))
 unfolding qualified
 any_is kind name = refl
 

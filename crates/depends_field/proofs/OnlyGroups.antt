@@ -80,7 +80,7 @@ named_is : (p : List ℕ) → is_package_name p ≡ true → named p ≡ Some (N
 unfolding named
 named_is p h = cond-true (is_package_name p) _ _ h
 
-name_of_package : (p : List ℕ) → is_package_name p ≡ true → is_name p ≡ true
+pub name_of_package : (p : List ℕ) → is_package_name p ≡ true → is_name p ≡ true
 name_of_package p h = (and_parts (is_name p) _ (and_parts _ (list_all (λ b. not (b == 95)) p) h).0).0
 
 alternative_then : (b n q t r a rest : List ℕ) → (b ++ (n ++ (q ++ (t ++ (r ++ a))))) ++ rest ≡ b ++ (n ++ (q ++ (t ++ (r ++ (a ++ rest)))))
@@ -112,7 +112,7 @@ pub record ToParted (kind : Kind) (s : Read) (group : List Alternative) (text re
   pub walk : Walk kind false s text false state rest
   pub then : parted state ≡ Some (record { groups = s.groups ++ (s.alternatives ++ group) ∷ []; alternatives = []; phase = Start })
 
-parted_is : (s : Read) (a : Alternative) → is_start s.phase ≡ false → ended s.phase ≡ Some a → parted s ≡ Some (record { groups = s.groups ++ (s.alternatives ++ a ∷ []) ∷ []; alternatives = []; phase = Start })
+pub parted_is : (s : Read) (a : Alternative) → is_start s.phase ≡ false → ended s.phase ≡ Some a → parted s ≡ Some (record { groups = s.groups ++ (s.alternatives ++ a ∷ []) ∷ []; alternatives = []; phase = Start })
 unfolding parted
 parted_is s a on ends = cond-false (is_start s.phase) _ _ on ∙ ap (grouped s) ends
 
@@ -184,11 +184,11 @@ pub record ToFinish (kind : Kind) (done groups : List (List Alternative)) (text 
   pub walk : Walk kind false (at_start done) text false state []
   pub then : finished state ≡ Some (done ++ groups)
 
-start_parted : (done : List (List Alternative)) → parted (at_start done) ≡ Some (at_start done)
+pub start_parted : (done : List (List Alternative)) → parted (at_start done) ≡ Some (at_start done)
 unfolding parted
 start_parted done = refl
 
-finish_from_parted : (s : Read) (groups : List (List Alternative)) (t : Read) → parted s ≡ Some t → t.groups ≡ groups → finished s ≡ Some groups
+pub finish_from_parted : (s : Read) (groups : List (List Alternative)) (t : Read) → parted s ≡ Some t → t.groups ≡ groups → finished s ≡ Some groups
 unfolding finished
 finish_from_parted s groups t e same = ap groups_read e ∙ ap Some same
 

@@ -110,7 +110,7 @@ operator_head o rest relation e = operator_first o rest (operator_is o relation 
 
 -- versions
 
-version_bytes : (v : List ℕ) → is_version_word v ≡ true → list_all is_version_byte v ≡ true
+pub version_bytes : (v : List ℕ) → is_version_word v ≡ true → list_all is_version_byte v ≡ true
 unfolding is_version_word
 version_bytes v h = (and_parts (list_all is_version_byte v) (is_version v) h).0
 
@@ -130,7 +130,7 @@ version_first : (v : List ℕ) → is_version_word v ≡ true → is_blanks v �
 version_first [] h = refl
 version_first (b ∷ v) h = (version_byte_not b (and_parts (is_version_byte b) (list_all is_version_byte v) (version_bytes (b ∷ v) h)).0).0
 
-version_turn : (v : List ℕ) → list_all is_version_byte v ≡ true → inside_after true v ≡ true
+pub version_turn : (v : List ℕ) → list_all is_version_byte v ≡ true → inside_after true v ≡ true
 unfolding inside_after
 version_turn v h = ap not (other_piece (list_all is_version_byte) v (41 ∷ []) h refl)
 

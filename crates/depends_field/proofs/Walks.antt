@@ -21,7 +21,7 @@ pub record Walk (kind : Kind) (inside : Bool) (s : Read) (text : List ℕ) (insi
   pub cut : IsCut inside text pieces inside_rest rest
   pub ran : run kind s pieces ≡ Some t
 
-cut_append : (inside inside1 inside2 : Bool) (text text1 text2 : List ℕ) (ps qs : List (List ℕ)) → IsCut inside text ps inside1 text1 → IsCut inside1 text1 qs inside2 text2 → IsCut inside text (ps ++ qs) inside2 text2
+pub cut_append : (inside inside1 inside2 : Bool) (text text1 text2 : List ℕ) (ps qs : List (List ℕ)) → IsCut inside text ps inside1 text1 → IsCut inside1 text1 qs inside2 text2 → IsCut inside text (ps ++ qs) inside2 text2
 cut_append inside inside1 inside2 text text1 text2 [] qs c d =
     let P : Bool → Type 0 = λ m. IsCut m text1 qs inside2 text2 in
     let Q : List ℕ → Type 0 = λ l. IsCut inside l qs inside2 text2 in
@@ -137,7 +137,7 @@ other_step kind s p comma bar blank =
 
 -- blanks
 
-blanks_turn : (inside : Bool) (w : List ℕ) → AllBlank w → inside_after inside w ≡ inside
+pub blanks_turn : (inside : Bool) (w : List ℕ) → AllBlank w → inside_after inside w ≡ inside
 unfolding inside_after
 blanks_turn true w all = ap not (other_piece (list_all is_blank) w (41 ∷ []) all refl)
 blanks_turn false w all = other_piece (list_all is_blank) w (40 ∷ []) all refl
@@ -176,7 +176,7 @@ name_bytes w h = (and_parts _ (list_all is_name_byte w) h).1
 name_begins : (w : List ℕ) → is_name w ≡ true → begins_alphanumeric w ≡ true
 name_begins w h = (and_parts _ (begins_alphanumeric w) (and_parts _ (list_all is_name_byte w) h).0).1
 
-name_turn : (w : List ℕ) → is_name w ≡ true → inside_after false w ≡ false
+pub name_turn : (w : List ℕ) → is_name w ≡ true → inside_after false w ≡ false
 unfolding inside_after
 name_turn w h = other_piece is_name w (40 ∷ []) h refl
 
