@@ -6,6 +6,7 @@ pub mod Fronts
 pub mod Only
 pub mod OnlyGroups
 pub mod Operators
+pub mod Places
 pub mod Unique
 pub mod Walks
 pub mod Words
