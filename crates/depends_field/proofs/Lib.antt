@@ -3,6 +3,7 @@ pub mod Cuts
 pub mod Found
 pub mod FoundGroups
 pub mod Fronts
+pub mod Laws
 pub mod Only
 pub mod OnlyGroups
 pub mod Operators

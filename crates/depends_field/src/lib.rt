@@ -10,3 +10,4 @@ mod state;
 
 pub use alternative::{Alternative, Group};
 pub use fault::DependsFault;
+pub use read::{read_depends, read_provides};

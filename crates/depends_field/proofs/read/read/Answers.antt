@@ -1,9 +1,11 @@
-use Rattle.std.proofs.Common.{arith, sym, ap, ◌∙◌, length, length-drop}
-use Rattle.std.proofs.lemmas.List.{take_rest}
-use Rattle.depends_field.proofs.Cuts.{one_piece_on}
+use Rattle.depends_field.proofs.Laws.{found_from, only_from, place_from}
 use Rattle.depends_field.proofs.read.read.Goals as goal
 
-pub loop-at-preserved : goal.loop-at-preserved
-loop-at-preserved c =
-    let rest = take_rest c.as_bytes-bytes.result.now c.loop-at.at in
-    one_piece_on c.args.kind c.as_bytes-bytes.result.now c.loop-at.at c.loop-at.inside c.inside_after-inside.result _ c.first_piece-piece.result.now c.loop-at.state c.in-Some.state c.loop-at.invariant rest (omega (arith, c.first_piece-piece.ensures.some, c.first_piece-piece.ensures.within)) c.first_piece-piece.ensures.piece c.first_piece-piece.ensures.len c.first_piece-piece.ensures.within (sym c.in-Some.is ∙ c.in_ok-state.ensures) c.inside_after-inside.ensures
+pub returns-clause-found : goal.returns-clause-found
+returns-clause-found c = found_from (λ v. v.items) c.args.kind c.args.text.now c.read_pieces.result c.read_pieces.ensures.groups
+
+pub returns-clause-only : goal.returns-clause-only
+returns-clause-only c = only_from (λ v. v.items) c.args.kind c.args.text.now c.read_pieces.result c.read_pieces.ensures.groups c.read_pieces.ensures.fault
+
+pub returns-clause-place : goal.returns-clause-place
+returns-clause-place c = place_from c.args.kind c.args.text.now c.read_pieces.result c.read_pieces.ensures.fault

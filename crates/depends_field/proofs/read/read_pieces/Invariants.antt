@@ -1,7 +1,7 @@
 use Rattle.std.proofs.Common.{◌≡◌, ℕ, ◌≤◌, ◌-◌, List, Some, Bool, false, length, drop}
 use Rattle.depends_field.specs.Pieces.{IsCut}
 use Rattle.depends_field.specs.Reading.{start, run}
-use Rattle.depends_field.proofs.read.read.Given as goal
+use Rattle.depends_field.proofs.read.read_pieces.Given as goal
 
 abbrev pub invariant-loop-at : goal.invariant-loop-at
 invariant-loop-at l =
