@@ -12,12 +12,11 @@ use Rattle.depends_field.specs.Pieces.{is_blank, is_word_byte, operator_len, pie
 use Rattle.depends_field.specs.Reading.{Read, start, run, stepped}
 
 pub cut_more : (inside : Bool) (text : List ℕ) (ps : List (List ℕ)) (inside_rest : Bool) (rest : List ℕ) → IsCut inside text ps inside_rest rest → 0 < length rest → IsCut inside text (ps ++ front inside_rest rest ∷ []) (inside_after inside_rest (front inside_rest rest)) (behind inside_rest rest)
-cut_more inside text [] inside_rest rest c some =
-    (
-    omega (arith, ap length c.1),
-    ap (λ m. front m rest) (sym c.0) ∙ ap (front inside) (sym c.1),
-    (ap (λ m. inside_after m (front inside_rest rest)) c.0, ap (λ m. behind m text) c.0 ∙ ap (behind inside_rest) c.1)
-    )
+cut_more inside text [] inside_rest rest c some = (
+  omega (arith, ap length c.1),
+  ap (λ m. front m rest) (sym c.0) ∙ ap (front inside) (sym c.1),
+  (ap (λ m. inside_after m (front inside_rest rest)) c.0, ap (λ m. behind m text) c.0 ∙ ap (behind inside_rest) c.1),
+)
 cut_more inside text (p ∷ ps) inside_rest rest c some =
     (c.0, c.1, cut_more (inside_after inside p) (behind inside text) ps inside_rest rest c.2 some)
 
@@ -43,8 +42,8 @@ operator_len_cases text = grind (arith, nat_tests)
 operator_len_within : (text : List ℕ) → 0 < length text → operator_len text ≤ length text
 operator_len_within text some =
     elim (operator_len_cases text) [
-      inl one ↦ omega arith
-    | inr two ↦ elim (cases_lt 1 (length text)) [ inl lt ↦ omega (arith, two.0) | inr ge ↦ absurd (two.1 (get_or_past text 1 0 ge)) ]
+      | inl one ↦ omega arith
+      | inr two ↦ elim (cases_lt 1 (length text)) [ inl lt ↦ omega (arith, two.0) | inr ge ↦ absurd (two.1 (get_or_past text 1 0 ge)) ]
     ]
 
 len_in : (blank word operator : Bool) (b w o n : ℕ) → 0 < n → (blank ≡ true → (0 < b) × (b ≤ n)) → (word ≡ true → (0 < w) × (w ≤ n)) → (operator ≡ true → (0 < o) × (o ≤ n)) → (0 < cond blank b (cond word w (cond operator o 1))) × (cond blank b (cond word w (cond operator o 1)) ≤ n)

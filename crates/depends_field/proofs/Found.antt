@@ -316,9 +316,9 @@ put_before kind phase p q text a e t = let P : List ℕ → Type 0 = λ l. Compl
 name_at : (kind : Kind) (name p text : List ℕ) (a : Alternative) (next : Phase) → cond (is_piece 58 p) (Some (Colon name)) (cond (is_piece 40 p) (Some (Opened (plain name))) None) ≡ Some next → Completes kind next text a → BehindName kind name (p ++ text) a
 name_at kind name p text a next e t =
     elim (chosen (is_piece 58 p) (Colon name) _ next e) [
-      inl c ↦ put_before kind (Named name) p (58 ∷ []) text a (same_bytes p (58 ∷ []) c.0) (colon_completes kind name text a (at_phase kind text a (Colon name) next c.1 t))
-    | inr d ↦ let c = only_chosen (is_piece 40 p) (Opened (plain name)) next d.1 in
-      put_before kind (Named name) p (40 ∷ []) text a (same_bytes p (40 ∷ []) c.0) (opened_name kind name text a (at_phase kind text a (Opened (plain name)) next c.1 t))
+      | inl c ↦ put_before kind (Named name) p (58 ∷ []) text a (same_bytes p (58 ∷ []) c.0) (colon_completes kind name text a (at_phase kind text a (Colon name) next c.1 t))
+      | inr d ↦ let c = only_chosen (is_piece 40 p) (Opened (plain name)) next d.1 in
+          put_before kind (Named name) p (40 ∷ []) text a (same_bytes p (40 ∷ []) c.0) (opened_name kind name text a (at_phase kind text a (Opened (plain name)) next c.1 t))
     ]
 
 qualifier_any : (p : List ℕ) (arch : Option (List ℕ)) → p ≡ codes "any" → arch ≡ None → QualifierText (58 ∷ p) arch
@@ -349,11 +349,11 @@ colon_at : (kind : Kind) (name p text : List ℕ) (a : Alternative) (next : Phas
 unfolding qualified
 colon_at kind name p text a next e t =
     elim (chosen (is_any p) (Parted (plain name)) _ next e) [
-      inl c ↦ let u = at_phase kind text a (Parted (plain name)) next c.1 t in
-      colon_behind kind name p text (plain name) a refl (qualifier_any p a.arch (same_bytes p (codes "any") c.0) u.same_arch) u
-    | inr d ↦ let c = only_chosen (is_architecture p) (Parted (with_arch name p)) next d.1 in
-      let u = at_phase kind text a (Parted (with_arch name p)) next c.1 t in
-      colon_behind kind name p text (with_arch name p) a refl (qualifier_arch p a.arch d.0 c.0 u.same_arch) u
+      | inl c ↦ let u = at_phase kind text a (Parted (plain name)) next c.1 t in
+          colon_behind kind name p text (plain name) a refl (qualifier_any p a.arch (same_bytes p (codes "any") c.0) u.same_arch) u
+      | inr d ↦ let c = only_chosen (is_architecture p) (Parted (with_arch name p)) next d.1 in
+          let u = at_phase kind text a (Parted (with_arch name p)) next c.1 t in
+          colon_behind kind name p text (with_arch name p) a refl (qualifier_arch p a.arch d.0 c.0 u.same_arch) u
     ]
 
 parted_at : (kind : Kind) (base : Alternative) (p text : List ℕ) (a : Alternative) (next : Phase) → cond (is_piece 40 p) (Some (Opened base)) None ≡ Some next → Completes kind next text a → BehindQualifier kind base (p ++ text) a

@@ -398,8 +398,8 @@ prefix_passes q [] = refl
 prefix_passes q (b ∷ bs) =
     let next : 1 + prefix_len q bs ≡ suc (prefix_len q bs) = omega arith in
     elim (cases_Bool (q b)) [
-      inl h ↦ ap (λ n. list_all q (take n (b ∷ bs))) (cond-true (q b) (1 + prefix_len q bs) 0 h ∙ next) ∙ and_from (q b) (list_all q (take (prefix_len q bs) bs)) h (prefix_passes q bs)
-    | inr h ↦ ap (λ n. list_all q (take n (b ∷ bs))) (cond-false (q b) (1 + prefix_len q bs) 0 h)
+      | inl h ↦ ap (λ n. list_all q (take n (b ∷ bs))) (cond-true (q b) (1 + prefix_len q bs) 0 h ∙ next) ∙ and_from (q b) (list_all q (take (prefix_len q bs) bs)) h (prefix_passes q bs)
+      | inr h ↦ ap (λ n. list_all q (take n (b ∷ bs))) (cond-false (q b) (1 + prefix_len q bs) 0 h)
     ]
 
 piece_len_blank : (inside : Bool) (text : List ℕ) → is_blank (get_or text 0 0) ≡ true → piece_len inside text ≡ prefix_len is_blank text

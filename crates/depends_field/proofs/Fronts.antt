@@ -19,16 +19,16 @@ run_ended : (q : ℕ → Bool) → q 0 ≡ false → (w rest : List ℕ) → pre
 run_ended q zero [] [] e = (refl, zero)
 run_ended q zero [] (b ∷ rest) e =
     elim (cases_Bool (q b)) [
-      inl h ↦ let n : 1 + prefix_len q rest ≡ 0 = sym (cond-true (q b) (1 + prefix_len q rest) 0 h) ∙ e in absurd (omega arith)
-    | inr h ↦ (refl, h)
+      | inl h ↦ let n : 1 + prefix_len q rest ≡ 0 = sym (cond-true (q b) (1 + prefix_len q rest) 0 h) ∙ e in absurd (omega arith)
+      | inr h ↦ (refl, h)
     ]
 run_ended q zero (b ∷ w) rest e =
     elim (cases_Bool (q b)) [
-      inl h ↦ let n : 1 + prefix_len q (w ++ rest) ≡ suc (length w) = sym (cond-true (q b) (1 + prefix_len q (w ++ rest)) 0 h) ∙ e in
-      let m : prefix_len q (w ++ rest) ≡ length w = omega arith in
-      let more = run_ended q zero w rest m in
-      (and_from (q b) (list_all q w) h more.0, more.1)
-    | inr h ↦ let n : 0 ≡ suc (length w) = sym (cond-false (q b) (1 + prefix_len q (w ++ rest)) 0 h) ∙ e in absurd (omega arith)
+      | inl h ↦ let n : 1 + prefix_len q (w ++ rest) ≡ suc (length w) = sym (cond-true (q b) (1 + prefix_len q (w ++ rest)) 0 h) ∙ e in
+          let m : prefix_len q (w ++ rest) ≡ length w = omega arith in
+          let more = run_ended q zero w rest m in
+          (and_from (q b) (list_all q w) h more.0, more.1)
+      | inr h ↦ let n : 0 ≡ suc (length w) = sym (cond-false (q b) (1 + prefix_len q (w ++ rest)) 0 h) ∙ e in absurd (omega arith)
     ]
 
 -- what may follow a piece in place of the rest that followed it
@@ -48,8 +48,8 @@ other_len inside b c = cond (inside && ltb 0 (operator_by b c)) (operator_by b c
 one_by : (inside : Bool) (n : ℕ) → n ≤ 1 → cond (inside && ltb 0 n) n 1 ≡ 1
 one_by inside n h =
     elim (cases_Bool (inside && ltb 0 n)) [
-      inl e ↦ let some = ltb-true 0 n (and_parts inside (ltb 0 n) e).1 in cond-true (inside && ltb 0 n) n 1 e ∙ omega arith
-    | inr e ↦ cond-false (inside && ltb 0 n) n 1 e
+      | inl e ↦ let some = ltb-true 0 n (and_parts inside (ltb 0 n) e).1 in cond-true (inside && ltb 0 n) n 1 e ∙ omega arith
+      | inr e ↦ cond-false (inside && ltb 0 n) n 1 e
     ]
 
 no_operator : (c : ℕ) → is_operator_byte c ≡ false → (cond {A = ℕ} (c == 60 || c == 61) 2 1 ≡ 1) × (cond {A = ℕ} (c == 62 || c == 61) 2 1 ≡ 1)
@@ -112,20 +112,18 @@ piece_of inside text p some is =
     (whole, ap (piece_len inside) whole ∙ sym len, omega (arith, len, bounds.0))
 
 pub cut_one : (inside : Bool) (p rest : List ℕ) → 0 < length p → piece_len inside (p ++ rest) ≡ length p → IsCut inside (p ++ rest) (p ∷ []) (inside_after inside p) rest
-cut_one inside p rest some len =
-    (
-    omega (arith, length-append p rest),
-    sym (ap (λ n. take n (p ++ rest)) len ∙ take_at p rest (length p) refl),
-    (refl, ap (λ n. drop n (p ++ rest)) len ∙ drop_at p rest (length p) refl)
-    )
+cut_one inside p rest some len = (
+  omega (arith, length-append p rest),
+  sym (ap (λ n. take n (p ++ rest)) len ∙ take_at p rest (length p) refl),
+  (refl, ap (λ n. drop n (p ++ rest)) len ∙ drop_at p rest (length p) refl),
+)
 
 cut_front : (inside m : Bool) (p text rest : List ℕ) (ps : List (List ℕ)) → 0 < length p → piece_len inside (p ++ text) ≡ length p → IsCut (inside_after inside p) text ps m rest → IsCut inside (p ++ text) (p ∷ ps) m rest
 cut_front inside m p text rest ps some len c =
-    let P : List ℕ → Type 0 = λ l. IsCut (inside_after inside p) l ps m rest in
-    (
-    omega (arith, length-append p text),
-    sym (ap (λ n. take n (p ++ text)) len ∙ take_at p text (length p) refl),
-    subst P (sym (ap (λ n. drop n (p ++ text)) len ∙ drop_at p text (length p) refl)) c
+    let P : List ℕ → Type 0 = λ l. IsCut (inside_after inside p) l ps m rest in (
+      omega (arith, length-append p text),
+      sym (ap (λ n. take n (p ++ text)) len ∙ take_at p text (length p) refl),
+      subst P (sym (ap (λ n. drop n (p ++ text)) len ∙ drop_at p text (length p) refl)) c,
     )
 
 first_byte : (p rest : List ℕ) → 0 < length p → get_or (p ++ rest) 0 0 ≡ get_or p 0 0

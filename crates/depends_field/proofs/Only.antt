@@ -85,15 +85,15 @@ qualifier_walk kind s name qualifier None rest (inr any) stop = record {
   next = Parted (plain name);
   is = parted_base kind (plain name);
   walk = walk_as kind false false (with_phase s (Named name)) (with_phase s (Parted (plain name))) (qualifier ++ rest) (58 ∷ (codes "any" ++ rest)) rest (ap (λ (l : List ℕ). l ++ rest) any) (
-    walk_on kind false false false (with_phase s (Named name)) (with_phase s (Colon name)) (with_phase s (Parted (plain name))) (58 ∷ (codes "any" ++ rest)) (codes "any" ++ rest) rest (walk_colon kind s (Named name) (Colon name) (codes "any" ++ rest) refl) (walk_name kind s (Colon name) (Parted (plain name)) (codes "any") rest refl (any_is kind name) stop)
-  );
+      walk_on kind false false false (with_phase s (Named name)) (with_phase s (Colon name)) (with_phase s (Parted (plain name))) (58 ∷ (codes "any" ++ rest)) (codes "any" ++ rest) rest (walk_colon kind s (Named name) (Colon name) (codes "any" ++ rest) refl) (walk_name kind s (Colon name) (Parted (plain name)) (codes "any") rest refl (any_is kind name) stop)
+      );
 }
 qualifier_walk kind s name qualifier (Some arch) rest q stop = record {
   next = Parted (with_arch name arch);
   is = parted_base kind (with_arch name arch);
   walk = walk_as kind false false (with_phase s (Named name)) (with_phase s (Parted (with_arch name arch))) (qualifier ++ rest) (58 ∷ (arch ++ rest)) rest (ap (λ (l : List ℕ). l ++ rest) q.0) (
-    walk_on kind false false false (with_phase s (Named name)) (with_phase s (Colon name)) (with_phase s (Parted (with_arch name arch))) (58 ∷ (arch ++ rest)) (arch ++ rest) rest (walk_colon kind s (Named name) (Colon name) (arch ++ rest) refl) (walk_name kind s (Colon name) (Parted (with_arch name arch)) arch rest (architecture_name arch q.1) (arch_is kind name arch q.1 q.2) stop)
-  );
+      walk_on kind false false false (with_phase s (Named name)) (with_phase s (Colon name)) (with_phase s (Parted (with_arch name arch))) (58 ∷ (arch ++ rest)) (arch ++ rest) rest (walk_colon kind s (Named name) (Colon name) (arch ++ rest) refl) (walk_name kind s (Colon name) (Parted (with_arch name arch)) arch rest (architecture_name arch q.1) (arch_is kind name arch q.1 q.2) stop)
+      );
 }
 
 -- the restriction
@@ -116,15 +116,15 @@ restriction_walk kind s phase base relation version restriction rest is r =
     let same : restriction ++ rest ≡ 40 ∷ t0 = ap (λ (l : List ℕ). l ++ rest) r.is ∙ opened_then r.before r.operator r.between version r.after rest in
     let v = version_head version t4 r.version_is in
     walk_as kind false false (with_phase s phase) (with_phase s (Closed whole)) (restriction ++ rest) (40 ∷ t0) rest same (
-      walk_on kind false true false (with_phase s phase) (with_phase s (Opened base)) (with_phase s (Closed whole)) (40 ∷ t0) t0 rest (walk_opening kind s phase (Opened base) t0 is.opens) (
-        walk_on kind true true false (with_phase s (Opened base)) (with_phase s (Opened base)) (with_phase s (Closed whole)) t0 t1 rest (walk_blanks kind true s (Opened base) r.before t1 refl r.blank_before (operator_head r.operator t2 relation r.operator_is)) (
-          walk_on kind true true false (with_phase s (Opened base)) (with_phase s (Compared base relation)) (with_phase s (Closed whole)) t1 t2 rest (walk_operator kind s base relation r.operator t2 r.operator_is r.allowed (behind_blanks is_operator_byte r.between t3 blank_not_operator r.blank_between v.1)) (
-            walk_on kind true true false (with_phase s (Compared base relation)) (with_phase s (Compared base relation)) (with_phase s (Closed whole)) t2 t3 rest (walk_blanks kind true s (Compared base relation) r.between t3 refl r.blank_between v.0) (
-              walk_on kind true true false (with_phase s (Compared base relation)) (with_phase s (Versioned whole)) (with_phase s (Closed whole)) t3 t4 rest (walk_version kind s base relation version t4 r.version_is (behind_blanks is_version_byte r.after t5 blank_not_version r.blank_after closing_not_version)) (
-                walk_on kind true true false (with_phase s (Versioned whole)) (with_phase s (Versioned whole)) (with_phase s (Closed whole)) t4 t5 rest (walk_blanks kind true s (Versioned whole) r.after t5 refl r.blank_after refl) (walk_closing kind s (Versioned whole) (Closed whole) rest refl)
-              )
-            )
-          )
-        )
-      )
+    walk_on kind false true false (with_phase s phase) (with_phase s (Opened base)) (with_phase s (Closed whole)) (40 ∷ t0) t0 rest (walk_opening kind s phase (Opened base) t0 is.opens) (
+    walk_on kind true true false (with_phase s (Opened base)) (with_phase s (Opened base)) (with_phase s (Closed whole)) t0 t1 rest (walk_blanks kind true s (Opened base) r.before t1 refl r.blank_before (operator_head r.operator t2 relation r.operator_is)) (
+    walk_on kind true true false (with_phase s (Opened base)) (with_phase s (Compared base relation)) (with_phase s (Closed whole)) t1 t2 rest (walk_operator kind s base relation r.operator t2 r.operator_is r.allowed (behind_blanks is_operator_byte r.between t3 blank_not_operator r.blank_between v.1)) (
+    walk_on kind true true false (with_phase s (Compared base relation)) (with_phase s (Compared base relation)) (with_phase s (Closed whole)) t2 t3 rest (walk_blanks kind true s (Compared base relation) r.between t3 refl r.blank_between v.0) (
+    walk_on kind true true false (with_phase s (Compared base relation)) (with_phase s (Versioned whole)) (with_phase s (Closed whole)) t3 t4 rest (walk_version kind s base relation version t4 r.version_is (behind_blanks is_version_byte r.after t5 blank_not_version r.blank_after closing_not_version)) (
+    walk_on kind true true false (with_phase s (Versioned whole)) (with_phase s (Versioned whole)) (with_phase s (Closed whole)) t4 t5 rest (walk_blanks kind true s (Versioned whole) r.after t5 refl r.blank_after refl) (walk_closing kind s (Versioned whole) (Closed whole) rest refl)
+    )
+    )
+    )
+    )
+    )
     )

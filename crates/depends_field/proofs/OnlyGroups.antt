@@ -38,8 +38,8 @@ behind_name kind s name arch None q between restriction after t qualifier none h
       ends = second.is.ends;
       on = second.is.on;
       walk = walk_as kind false false (with_phase s (Named name)) (with_phase s second.next) (q ++ (between ++ (restriction ++ (after ++ t)))) (q ++ ((between ++ after) ++ t)) t (unrestricted_text q between restriction after t none) (
-        walk_on kind false false false (with_phase s (Named name)) (with_phase s first.next) (with_phase s second.next) (q ++ ((between ++ after) ++ t)) ((between ++ after) ++ t) t first.walk second.walk
-      );
+          walk_on kind false false false (with_phase s (Named name)) (with_phase s first.next) (with_phase s second.next) (q ++ ((between ++ after) ++ t)) ((between ++ after) ++ t) t first.walk second.walk
+          );
     }
 behind_name kind s name arch (Some x) q between restriction after t qualifier r hb ha tail =
     let base : Alternative = record { name = name; arch = arch; relation = None } in
@@ -58,8 +58,8 @@ behind_name kind s name arch (Some x) q between restriction after t qualifier r 
       ends = refl;
       on = refl;
       walk = walk_on kind false false false (with_phase s (Named name)) (with_phase s first.next) (with_phase s (Closed whole)) (q ++ t0) t0 t first.walk (
-        walk_on kind false false false (with_phase s first.next) (with_phase s second.next) (with_phase s (Closed whole)) t0 t1 t second.walk (walk_on kind false false false (with_phase s second.next) (with_phase s (Closed whole)) (with_phase s (Closed whole)) t1 t2 t third fourth)
-      );
+          walk_on kind false false false (with_phase s first.next) (with_phase s second.next) (with_phase s (Closed whole)) t0 t1 t second.walk (walk_on kind false false false (with_phase s second.next) (with_phase s (Closed whole)) (with_phase s (Closed whole)) t1 t2 t third fourth)
+          );
     }
 
 qualifier_head : (q : List ℕ) (arch : Option (List ℕ)) (rest : List ℕ) → QualifierText q arch → is_name_byte (get_or rest 0 0) ≡ false → is_name_byte (get_or (q ++ rest) 0 0) ≡ false
@@ -101,8 +101,8 @@ alternative_walk kind s phase a text t begins is tail =
       ends = third.ends;
       on = third.on;
       walk = walk_as kind false false (with_phase s phase) (with_phase s third.next) (text ++ t) (is.before ++ t0) t (ap (λ (l : List ℕ). l ++ t) is.is ∙ alternative_then is.before a.name is.qualifier is.between is.restriction is.after t) (
-        walk_on kind false false false (with_phase s phase) (with_phase s phase) (with_phase s third.next) (is.before ++ t0) t0 t first (walk_on kind false false false (with_phase s phase) (with_phase s (Named a.name)) (with_phase s third.next) t0 t1 t second third.walk)
-      );
+          walk_on kind false false false (with_phase s phase) (with_phase s phase) (with_phase s third.next) (is.before ++ t0) t0 t first (walk_on kind false false false (with_phase s phase) (with_phase s (Named a.name)) (with_phase s third.next) t0 t1 t second third.walk)
+          );
     }
 
 -- groups
@@ -160,8 +160,8 @@ bars_walk Depends (q ∷ qs) first (a ∷ group) s t begins each single tail =
     record {
       state = rest.state;
       walk = walk_as Depends false false s rest.state (parted_by 124 first (q ∷ qs) ++ t) (first ++ (124 ∷ more)) t (bars_then first q (flat_map (λ (part : List ℕ). 124 ∷ part) qs) t) (
-        walk_on Depends false false false s (with_phase s end.next) rest.state (first ++ (124 ∷ more)) (124 ∷ more) t end.walk (walk_on Depends false false false (with_phase s end.next) next rest.state (124 ∷ more) more t (walk_bar Depends (with_phase s end.next) next more (barred_is (with_phase s end.next) a end.ends)) rest.walk)
-      );
+          walk_on Depends false false false s (with_phase s end.next) rest.state (first ++ (124 ∷ more)) (124 ∷ more) t end.walk (walk_on Depends false false false (with_phase s end.next) next rest.state (124 ∷ more) more t (walk_bar Depends (with_phase s end.next) next more (barred_is (with_phase s end.next) a end.ends)) rest.walk)
+          );
       then = rest.then ∙ ap (λ (g : List Alternative). Some (record { groups = s.groups ++ g ∷ []; alternatives = []; phase = Start })) (append_assoc s.alternatives (a ∷ []) group);
     }
 

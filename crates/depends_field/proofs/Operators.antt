@@ -142,5 +142,5 @@ pub walk_version : (kind : Kind) (s : Read) (base : Alternative) (relation : Rel
 walk_version kind s base relation v rest h stop =
     let bytes = version_bytes v h in
     one_walk kind true true (with_phase s (Compared base relation)) (with_phase s (Versioned (with_relation base relation v))) v rest (version_some v h) (word_len true v rest (version_some v h) bytes stop) (version_turn v bytes) (
-      other_step kind (with_phase s (Compared base relation)) v (other_piece (list_all is_version_byte) v (44 ∷ []) bytes refl) (other_piece (list_all is_version_byte) v (124 ∷ []) bytes refl) (version_first v h) ∙ ap (phased (with_phase s (Compared base relation))) (versioned_is base relation v h)
+    other_step kind (with_phase s (Compared base relation)) v (other_piece (list_all is_version_byte) v (44 ∷ []) bytes refl) (other_piece (list_all is_version_byte) v (124 ∷ []) bytes refl) (version_first v h) ∙ ap (phased (with_phase s (Compared base relation))) (versioned_is base relation v h)
     )

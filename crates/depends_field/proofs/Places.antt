@@ -265,10 +265,10 @@ closes_here kind inside b v rest t len c =
 spaced_here : (kind : Kind) (inside : Bool) (b : ℕ) (v rest w : List ℕ) (s : Read) (phase : Phase) → rested phase ≡ Some phase → is_blank (get_or w 0 0) ≡ false → piece_len inside ((b ∷ v) ++ rest) ≡ suc (length v) → Completion kind (with_phase s phase) w → GoesOn kind inside (b ∷ v) (with_phase s phase)
 spaced_here kind inside b v rest w s phase e stop len c =
     elim (cases_Bool (is_blank b)) [
-      inl h ↦ let may : MayFollow inside b (get_or rest 0 0) (get_or w 0 0) = record { blank = λ k. stop; word = λ k. absurd (false≢true (sym k ∙ h)); operator = λ k. absurd (false≢true (sym k ∙ h)) } in
-      record { w = w; fits = follows inside b v rest w may len; completion = c }
-    | inr h ↦ let may : MayFollow inside b (get_or rest 0 0) 32 = record { blank = λ k. absurd (false≢true (sym h ∙ k)); word = λ k l. space_word inside; operator = λ k. inl refl } in
-      record { w = 32 ∷ w; fits = follows inside b v rest (32 ∷ w) may len; completion = spaced_completion kind s phase w e stop c }
+      | inl h ↦ let may : MayFollow inside b (get_or rest 0 0) (get_or w 0 0) = record { blank = λ k. stop; word = λ k. absurd (false≢true (sym k ∙ h)); operator = λ k. absurd (false≢true (sym k ∙ h)) } in
+          record { w = w; fits = follows inside b v rest w may len; completion = c }
+      | inr h ↦ let may : MayFollow inside b (get_or rest 0 0) 32 = record { blank = λ k. absurd (false≢true (sym h ∙ k)); word = λ k l. space_word inside; operator = λ k. inl refl } in
+          record { w = 32 ∷ w; fits = follows inside b v rest (32 ∷ w) may len; completion = spaced_completion kind s phase w e stop c }
     ]
 
 colon_here : (kind : Kind) (inside : Bool) (p : List ℕ) (s : Read) (name : List ℕ) → p ≡ 58 ∷ [] → inside ≡ false → GoesOn kind inside p (with_phase s (Colon name))

@@ -54,7 +54,7 @@ one_walk kind inside after s t p rest some len turn step = record {
   cut = (
     omega (arith, length-append p rest),
     sym (ap (λ n. take n (p ++ rest)) len ∙ take_at p rest (length p) refl),
-    (turn, ap (λ n. drop n (p ++ rest)) len ∙ drop_at p rest (length p) refl)
+    (turn, ap (λ n. drop n (p ++ rest)) len ∙ drop_at p rest (length p) refl),
   );
   ran = ap (option_and_then (λ u. run kind u [])) step;
 }
@@ -149,7 +149,7 @@ blanks_first (b ∷ w) some all = (and_parts (is_blank b) (list_all is_blank w) 
 pub some_blanks : (kind : Kind) (inside : Bool) (s : Read) (phase next : Phase) (w rest : List ℕ) → rested phase ≡ Some next → 0 < length w → AllBlank w → is_blank (get_or rest 0 0) ≡ false → Walk kind inside (with_phase s phase) (w ++ rest) inside (with_phase s next) rest
 some_blanks kind inside s phase next w rest e some all stop =
     one_walk kind inside inside (with_phase s phase) (with_phase s next) w rest some (blanks_len inside w rest some all stop) (blanks_turn inside w all) (
-      blank_step kind (with_phase s phase) w (other_piece (list_all is_blank) w (44 ∷ []) all refl) (other_piece (list_all is_blank) w (124 ∷ []) all refl) (blanks_first w some all) ∙ ap (phased (with_phase s phase)) e
+    blank_step kind (with_phase s phase) w (other_piece (list_all is_blank) w (44 ∷ []) all refl) (other_piece (list_all is_blank) w (124 ∷ []) all refl) (blanks_first w some all) ∙ ap (phased (with_phase s phase)) e
     )
 
 pub walk_blanks : (kind : Kind) (inside : Bool) (s : Read) (phase : Phase) (w rest : List ℕ) → rested phase ≡ Some phase → AllBlank w → is_blank (get_or rest 0 0) ≡ false → Walk kind inside (with_phase s phase) (w ++ rest) inside (with_phase s phase) rest
@@ -187,7 +187,7 @@ name_head (b ∷ w) rest h = alphanumeric_not_blank b (name_begins (b ∷ w) h)
 pub walk_name : (kind : Kind) (s : Read) (phase next : Phase) (w rest : List ℕ) → is_name w ≡ true → advanced kind phase w ≡ Some next → is_name_byte (get_or rest 0 0) ≡ false → Walk kind false (with_phase s phase) (w ++ rest) false (with_phase s next) rest
 walk_name kind s phase next w rest h e stop =
     one_walk kind false false (with_phase s phase) (with_phase s next) w rest (name_some w h) (word_len false w rest (name_some w h) (name_bytes w h) stop) (name_turn w h) (
-      other_step kind (with_phase s phase) w (other_piece is_name w (44 ∷ []) h refl) (other_piece is_name w (124 ∷ []) h refl) (alphanumeric_not_blank (get_or w 0 0) (name_begins w h)) ∙ ap (phased (with_phase s phase)) e
+    other_step kind (with_phase s phase) w (other_piece is_name w (44 ∷ []) h refl) (other_piece is_name w (124 ∷ []) h refl) (alphanumeric_not_blank (get_or w 0 0) (name_begins w h)) ∙ ap (phased (with_phase s phase)) e
     )
 
 -- single bytes outside parentheses, and the closing one

@@ -1,11 +1,11 @@
 -- The grammar of relation fields (Debian Policy 7.1, 7.5), as a relation from a text to what it says.
-use Rattle.std.specs.Prelude.{◌≡◌, ◌⊎◌, ◌++◌, ◌≢◌, ℕ, List, [], ◌∷◌, Option, Some, None, IsTrue, codes}
+use Rattle.std.specs.Prelude.{◌≡◌, ◌⊎◌, ◌++◌, ◌≢◌, ℕ, List, [], ◌∷◌, Option, Some, None, IsTrue, codes, map}
 use Rattle.std.specs.List.{list_all, flat_map, AllZip}
 use Rattle.ap_text.specs.Names.{is_package_name}
 use Rattle.deb_version.specs.declared.order.Relation.{Relation}
 use Rattle.depends_field.specs.declared.alternative.Alternative.{Alternative}
 use Rattle.depends_field.specs.declared.phase.Kind.{Kind}
-use Rattle.depends_field.specs.declared.phase.Kind.TheVariants.{Provides}
+use Rattle.depends_field.specs.declared.phase.Kind.TheVariants.{Depends, Provides}
 use Rattle.depends_field.specs.Pieces.{is_blank}
 use Rattle.depends_field.specs.Reading.{is_any, is_architecture, relation_of, is_allowed, is_version_word}
 
@@ -74,3 +74,11 @@ pub record Groups (kind : Kind) (text : List ℕ) (groups : List (List Alternati
   pub others : List (List ℕ)
   pub is : text ≡ parted_by 44 first others
   pub each : PartsText kind (first ∷ others) groups
+
+-- what Depends and the fields like it say
+abbrev pub DependsText : List ℕ → List (List Alternative) → Type 0
+DependsText text groups = Groups Depends text groups
+
+-- what Provides says: each alternative is a group of its own
+abbrev pub ProvidesText : List ℕ → List Alternative → Type 0
+ProvidesText text list = Groups Provides text (map (λ (a : Alternative). a ∷ []) list)

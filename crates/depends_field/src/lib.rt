@@ -3,6 +3,7 @@
 
 mod alternative;
 mod fault;
+mod laws;
 mod phase;
 mod pieces;
 mod read;
@@ -10,4 +11,8 @@ mod state;
 
 pub use alternative::{Alternative, Group};
 pub use fault::DependsFault;
+pub use laws::fields_have_one_reading;
 pub use read::{read_depends, read_provides};
+
+#[cfg(test)]
+mod tests;

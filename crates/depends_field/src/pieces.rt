@@ -1,6 +1,6 @@
 ghost use Rattle.std.specs.Prelude.{◌≡◌, ◌<◌, ◌≤◌, ◌==◌, ◌||◌, length, slice_index};
 ghost use Rattle.std.specs.List.{prefix_len, list_all};
-ghost use Rattle.ap_text.specs.Names.{is_alphanumeric as alphanumeric, is_name_byte as name_byte};
+ghost use Rattle.ap_text.specs.Names.{is_name_byte as name_byte};
 ghost use Rattle.depends_field.specs.Pieces.{is_blank as blank, is_version_byte as version_byte, is_word_byte as word_byte, operator_len as longest_operator, piece_len as len_of_piece, inside_after as after_piece, front};
 
 /// Whether a byte is a space, a tab or a line end.
@@ -10,22 +10,16 @@ pub fn is_blank(b: u8) -> bool
     b == b' ' || b == b'\t' || b == b'\n'
 }
 
-fn is_alphanumeric(b: u8) -> bool
-    ensures { result ≡ alphanumeric b }
-{
-    matches!(b, b'0'..=b'9' | b'A'..=b'Z' | b'a'..=b'z')
-}
-
 fn is_name_byte(b: u8) -> bool
     ensures { result ≡ name_byte b }
 {
-    is_alphanumeric(b) || b == b'+' || b == b'-' || b == b'.' || b == b'_'
+    b.is_ascii_alphanumeric() || matches!(b, b'+' | b'-' | b'.' | b'_')
 }
 
 fn is_version_byte(b: u8) -> bool
     ensures { result ≡ version_byte b }
 {
-    is_alphanumeric(b) || b == b'.' || b == b'+' || b == b'-' || b == b'~' || b == b':'
+    b.is_ascii_alphanumeric() || matches!(b, b'.' | b'+' | b'-' | b'~' | b':')
 }
 
 /// Whether a piece has no byte but those of versions.

@@ -1,8 +1,8 @@
-ghost use Rattle.std.specs.Prelude.{◌≡◌, List, [], ◌∷◌, IfOk, IfErr, MatchResult, map};
+ghost use Rattle.std.specs.Prelude.{◌≡◌, List, IfOk, IfErr, MatchResult};
 ghost use Rattle.std.specs.List.{flat_map};
 ghost use Rattle.depends_field.specs.declared.alternative.Alternative.{Alternative};
 ghost use Rattle.depends_field.specs.Faults.{IsReading, IsFaultOf};
-ghost use Rattle.depends_field.specs.Groups.{Groups};
+ghost use Rattle.depends_field.specs.Groups.{Groups, DependsText, ProvidesText};
 ghost use Rattle.depends_field.specs.Places.{IsFaultAt};
 
 use crate::alternative::{Alternative, Group};
@@ -12,7 +12,7 @@ use crate::pieces::{first_piece, inside_after};
 use crate::state::State;
 use std::alloc::{AllocError, Global};
 
-/// Reads a field piece by piece.
+/// Reads a field piece by piece, from the left.
 fn read_pieces(alloc: Global, kind: Kind, text: &str) -> Result<Vec<Group>, DependsFault>
     ensures groups { IfOk result (λ groups. IsReading kind text.now groups.items) }
     ensures fault { IfErr result (IsFaultOf kind text.now) }
@@ -38,6 +38,7 @@ fn read_pieces(alloc: Global, kind: Kind, text: &str) -> Result<Vec<Group>, Depe
     }
 }
 
+/// The groups of a field, by its grammar.
 fn read(alloc: Global, kind: Kind, text: &str) -> Result<Vec<Group>, DependsFault>
     ensures found { IfOk result (λ groups. Groups kind text.now groups.items) }
     ensures only { (groups : List (List Alternative)) → Groups kind text.now groups → MatchResult result (λ read. read.items ≡ groups) (λ fault. fault ≡ DependsFault.OutOfMemory) }
@@ -64,9 +65,9 @@ fn flattened(alloc: Global, groups: Vec<Group>) -> Result<Vec<Alternative>, Allo
 /// `<` and `>` mean `<=` and `>=`.
 pub fn read_depends(alloc: Global, text: &str) -> Result<Vec<Group>, DependsFault>
     // What is read is spelled so.
-    ensures found { IfOk result (λ groups. Groups Kind.Depends text.now groups.items) }
+    ensures found { IfOk result (λ groups. DependsText text.now groups.items) }
     // What is spelled so is read, unless memory runs out.
-    ensures only { (groups : List (List Alternative)) → Groups Kind.Depends text.now groups → MatchResult result (λ read. read.items ≡ groups) (λ fault. fault ≡ DependsFault.OutOfMemory) }
+    ensures only { (groups : List (List Alternative)) → DependsText text.now groups → MatchResult result (λ read. read.items ≡ groups) (λ fault. fault ≡ DependsFault.OutOfMemory) }
     // A fault is told only of an unreadable text, with the place at which it ceases to be the front of a readable one.
     ensures place { IfErr result (IsFaultAt Kind.Depends text.now) }
 {
@@ -77,9 +78,9 @@ pub fn read_depends(alloc: Global, text: &str) -> Result<Vec<Group>, DependsFaul
 /// the only operator is `=`.
 pub fn read_provides(alloc: Global, text: &str) -> Result<Vec<Alternative>, DependsFault>
     // What is read is spelled so, each alternative as a group of its own.
-    ensures found { IfOk result (λ list. Groups Kind.Provides text.now (map (λ a. a ∷ []) list.items)) }
+    ensures found { IfOk result (λ list. ProvidesText text.now list.items) }
     // What is spelled so is read, unless memory runs out.
-    ensures only { (list : List Alternative) → Groups Kind.Provides text.now (map (λ a. a ∷ []) list) → MatchResult result (λ read. read.items ≡ list) (λ fault. fault ≡ DependsFault.OutOfMemory) }
+    ensures only { (list : List Alternative) → ProvidesText text.now list → MatchResult result (λ read. read.items ≡ list) (λ fault. fault ≡ DependsFault.OutOfMemory) }
     // A fault is told only of an unreadable text, with the place at which it ceases to be the front of a readable one.
     ensures place { IfErr result (IsFaultAt Kind.Provides text.now) }
 {

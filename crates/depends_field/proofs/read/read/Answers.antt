@@ -1,4 +1,4 @@
-use Rattle.depends_field.proofs.Laws.{found_from, only_from, place_from}
+use Rattle.depends_field.proofs.Readers.{found_from, only_from, place_from}
 use Rattle.depends_field.proofs.read.read.Goals as goal
 
 pub returns-clause-found : goal.returns-clause-found

@@ -1,7 +1,7 @@
 use Rattle.std.proofs.Common.{List, [], ◌∷◌, map, ◌∙◌}
 use Rattle.std.proofs.lemmas.Result.{err_from_is_err_and}
 use Rattle.depends_field.specs.declared.alternative.Alternative.{Alternative}
-use Rattle.depends_field.proofs.Laws.{provides_found, provides_only}
+use Rattle.depends_field.proofs.Readers.{provides_found, provides_only}
 use Rattle.depends_field.proofs.read.read_provides.Goals as goal
 
 pub returns-in_err-groups-clause-only : goal.returns-in_err-groups-clause-only
