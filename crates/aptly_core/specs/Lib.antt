@@ -1,0 +1,7 @@
+pub mod Ascending
+pub mod Values
+pub mod State
+pub mod Words
+pub mod Replies
+pub mod Root
+pub mod Step
