@@ -1,5 +1,5 @@
 -- The lines that are said, as bytes.
-use Rattle.std.specs.Prelude.{ℕ, Bool, ◌&&◌, nat_le, List, [], ◌∷◌, ◌++◌, map, take, codes, if◌then◌else◌}
+use Rattle.std.specs.Prelude.{ℕ, Bool, ◌&&◌, nat_le, List, [], ◌∷◌, ◌++◌, map, take, codes, encode_utf8_all, if◌then◌else◌}
 use Rattle.std.specs.Fmt.{decimal}
 use Rattle.std.specs.Str.{chars}
 use Rattle.aptly_core.specs.declared.machine_state.Kind.{Kind}
@@ -44,14 +44,14 @@ limit_word limits.Date = codes "date"
 abbrev pub shown_char : ℕ → ℕ
 shown_char c = if (nat_le 32 c && nat_le c 126) then c else 63
 
--- at most the first hundred characters of a text, so shown
+-- at most the first hundred characters of a text, so shown, in UTF-8
 unfoldable pub shown : List ℕ → List ℕ
-shown text = map shown_char (take 100 (chars text))
+shown text = encode_utf8_all (map shown_char (take 100 (chars text)))
 
 unfoldable pub refusal_text : Refusal → List ℕ
 refusal_text (refusals.BadName text) = codes "bad name " ++ shown text
 refusal_text (refusals.Exists kind name) = kind_word kind ++ codes " " ++ name ++ codes " exists"
-refusal_text (refusals.Limit limit) = codes "over the limit of " ++ decimal (limit_number limit) ++ codes " " ++ limit_word limit
+refusal_text (refusals.Limit limit) = codes "over the limit of " ++ (decimal (limit_number limit) ++ (codes " " ++ limit_word limit))
 
 -- `ERROR: repo local exists`
 unfoldable pub refusal_line : Refusal → List ℕ

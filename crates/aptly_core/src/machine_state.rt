@@ -172,7 +172,7 @@ fn find_repo<'a>(repos: &'a [Repo], name: &Name) -> Option<&'a Repo>
     }
 }
 
-fn copy_repos(alloc: Global, repos: &[Repo]) -> Result<Vec<Repo>, AllocError>
+pub fn copy_repos(alloc: Global, repos: &[Repo]) -> Result<Vec<Repo>, AllocError>
     ensures { IfOk result (λ copies. copies.items ≡ repos.now) }
 {
     let mut copies = Vec::new(alloc);
