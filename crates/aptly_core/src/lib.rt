@@ -5,4 +5,5 @@ pub mod catalogue_text;
 pub mod command_words;
 pub mod machine_state;
 pub mod machine_step;
+mod naming;
 pub mod reply_text;

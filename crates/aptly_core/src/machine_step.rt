@@ -10,8 +10,9 @@ ghost use Rattle.aptly_core.specs.Step.{Step, Came, seen, new_repo as new_repo_o
 
 use crate::command_words::Command;
 use crate::machine_state::{Kind, Limit, Refusal, Repo, State, copy_repos, place_of_repo};
+use crate::naming::name_of;
 use crate::reply_text::{refusal_line, repo_created};
-use ap_text::{Name, TextFault};
+use ap_text::Name;
 use control_stanza::Text;
 use std::alloc::{AllocError, Global};
 
@@ -44,22 +45,11 @@ fn written_name(command: &Command) -> &Text
     }
 }
 
-/// The text as a name, if it is one.
-fn name_of(alloc: Global, text: &Text) -> Result<Option<Name>, AllocError>
-    ensures { IfOk result (λ name. MatchOption name (IsFalse (is_name text.now)) (λ name. (name ≡ text.now) × IsTrue (is_name name))) }
-{
-    match Name::new(alloc, text.as_str()) {
-        Ok(name) => Ok(Some(name)),
-        Err(TextFault::OutOfMemory) => Err(AllocError),
-        Err(_) => Ok(None),
-    }
-}
-
 fn create_repo(alloc: Global, repos: &[Repo], name: &Text) -> Result<Outcome, AllocError>
     ensures step { IsAscending repo_cmp repos.now → IfOk result (λ outcome. (large : Option (List ℕ)) → Step large (record { repos = repos.now }) (CommandOf.RepoCreate name.now) (seen (record { repos = repos.now }) outcome)) }
     ensures kept { IfOk result (λ outcome. IsSome outcome.refusal → outcome.state ≡ None) }
 {
-    match name_of(alloc, name)? {
+    match name_of(alloc, name.as_str())? {
         None => refuse(alloc, Refusal::BadName(name.copy(alloc)?)),
         Some(named) => create_named(alloc, repos, named),
     }
@@ -95,7 +85,7 @@ fn refuse(alloc: Global, refusal: Refusal) -> Result<Outcome, AllocError>
 fn new_repo(alloc: Global, name: Name) -> Result<Repo, AllocError>
     ensures { IfOk result (λ repo. repo ≡ new_repo_of name) }
 {
-    match name_of(alloc, &Text::new(alloc, "main")?)? {
+    match name_of(alloc, "main")? {
         None => unreachable!(),
         Some(component) => Ok(Repo {
             name,
