@@ -1,0 +1,4 @@
+pub mod AscendingLemmas
+pub mod RepoLemmas
+pub mod StepLemmas
+pub mod WordLemmas
