@@ -6,3 +6,4 @@ pub mod WordsRead
 pub mod Replies
 pub mod Root
 pub mod Step
+pub mod Reading

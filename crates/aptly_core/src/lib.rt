@@ -6,4 +6,5 @@ pub mod command_words;
 pub mod machine_state;
 pub mod machine_step;
 mod naming;
+pub mod reading;
 pub mod reply_text;
