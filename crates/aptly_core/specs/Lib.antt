@@ -7,3 +7,8 @@ pub mod Replies
 pub mod Root
 pub mod Step
 pub mod Reading
+pub mod Status
+pub mod Store
+pub mod Machine
+pub mod Commits
+pub mod Runs
