@@ -1,9 +1,9 @@
+pub mod CommitLemmas
+pub mod Lawful
+pub mod SaveLemmas
+pub mod RunLemmas
 pub mod AscendingLemmas
 pub mod RepoLemmas
 pub mod StepLemmas
 pub mod WordLemmas
 pub mod RootTexts
-pub mod CommitLemmas
-pub mod Lawful
-pub mod SaveLemmas
-pub mod RunLemmas

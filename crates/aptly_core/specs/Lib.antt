@@ -1,3 +1,9 @@
+pub mod Reading
+pub mod Status
+pub mod Store
+pub mod Machine
+pub mod Commits
+pub mod Runs
 pub mod Ascending
 pub mod Values
 pub mod State
@@ -6,9 +12,3 @@ pub mod WordsRead
 pub mod Replies
 pub mod Root
 pub mod Step
-pub mod Reading
-pub mod Status
-pub mod Store
-pub mod Machine
-pub mod Commits
-pub mod Runs

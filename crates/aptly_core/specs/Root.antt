@@ -1,5 +1,5 @@
 -- The root text: a state as the lines that stand for it in a store.
-use Rattle.std.specs.Prelude.{◌≡◌, ℕ, suc, ◌+◌, ◌/◌, ◌<◌, ◌≤◌, List, [], ◌∷◌, ◌++◌, length, take, codes, Option, Some, None, All, if◌then◌else◌, ◌==◌}
+use Rattle.std.specs.Prelude.{◌≡◌, ℕ, suc, ◌+◌, ◌/◌, ◌<◌, ◌≤◌, List, [], ◌∷◌, ◌++◌, length, take, codes, unwrap_or, All, if◌then◌else◌, ◌==◌}
 use Rattle.std.specs.List.{flat_map}
 use Rattle.std.specs.Fmt.{decimal}
 use Rattle.aptly_core.specs.declared.machine_state.Limit.TheVariants.{Repos}
@@ -16,34 +16,29 @@ abbrev pub blank_and : List ℕ → List ℕ
 blank_and [] = []
 blank_and (b ∷ bs) = 32 ∷ b ∷ bs
 
-abbrev pub blank_and_optional : Option (List ℕ) → List ℕ
-blank_and_optional None = []
-blank_and_optional (Some text) = blank_and text
-
 -- a repository's five lines; its list is empty
-abbrev pub repo_lines : Repo → List (List ℕ)
+unfoldable pub repo_lines : Repo → List (List ℕ)
 repo_lines repo =
     (codes "repo " ++ repo.name)
     ∷ (codes "comment" ++ blank_and repo.comment)
-    ∷ (codes "distribution" ++ blank_and_optional repo.distribution)
+    ∷ (codes "distribution" ++ blank_and (unwrap_or repo.distribution []))
     ∷ (codes "component " ++ repo.component)
     ∷ codes "set 0"
     ∷ []
 
 -- the lines behind the repositories
-abbrev pub last_lines : List (List ℕ)
+unfoldable pub last_lines : List (List ℕ)
 last_lines = codes "snapshots 0" ∷ codes "publications 0" ∷ codes "end" ∷ []
 
 abbrev pub body_lines : List Repo → List (List ℕ)
 body_lines repos = flat_map repo_lines repos ++ last_lines
 
+-- the lines before the repositories, of which there are so many
+unfoldable pub head_lines : ℕ → List (List ℕ)
+head_lines count = codes "aptly root 0" ∷ codes "known 0" ∷ codes "mirrors 0" ∷ (codes "repos " ++ decimal count) ∷ []
+
 abbrev pub root_lines : StateView → List (List ℕ)
-root_lines state =
-    codes "aptly root 0"
-    ∷ codes "known 0"
-    ∷ codes "mirrors 0"
-    ∷ (codes "repos " ++ decimal (length state.repos))
-    ∷ body_lines state.repos
+root_lines state = head_lines (length state.repos) ++ body_lines state.repos
 
 -- the root text of a state: each of its lines with its line end
 unfoldable pub root_text : StateView → List ℕ
