@@ -2,6 +2,10 @@ pub mod CommitLemmas
 pub mod Lawful
 pub mod SaveLemmas
 pub mod RunLemmas
+pub mod SettleLemmas
+pub mod OpenLemmas
+pub mod ListLemmas
+pub mod CallLemmas
 pub mod AscendingLemmas
 pub mod RepoLemmas
 pub mod StepLemmas

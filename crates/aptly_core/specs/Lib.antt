@@ -4,6 +4,8 @@ pub mod Store
 pub mod Machine
 pub mod Commits
 pub mod Runs
+pub mod Opens
+pub mod Calls
 pub mod Ascending
 pub mod Values
 pub mod State
