@@ -7,3 +7,6 @@ pub mod machine_state;
 pub mod machine_step;
 mod naming;
 pub mod reply_text;
+mod root_reader;
+mod root_values;
+mod text_lines;
