@@ -8,3 +8,4 @@ pub mod ValueLemmas
 pub mod StopLemmas
 pub mod BodyLemmas
 pub mod ExitLemmas
+pub mod RootLemmas

@@ -69,7 +69,7 @@ unfolding line
 begun_line b [] bs e ne = absurd (ne refl)
 begun_line b (l ∷ ls) bs e ne = ap (λ t. b ∷ t) e
 
-lines_some : (b : ℕ) (bs : List ℕ) → lines_of (b ∷ bs) ≡ [] → ⊥
+pub lines_some : (b : ℕ) (bs : List ℕ) → lines_of (b ∷ bs) ≡ [] → ⊥
 lines_some b bs e = by_test (b == 10) e
   where
     by_test : (t : Bool) → cond t ([] ∷ lines_of bs) (begun b (lines_of bs)) ≡ [] → ⊥

@@ -5,6 +5,8 @@ use Rattle.std.specs.Cmp.Lexicographic.{slice_cmp}
 use Rattle.std.specs.List.{flat_map}
 use Rattle.aptly_core.specs.declared.machine_state.Repo.{Repo}
 use Rattle.aptly_core.specs.declared.machine_state.Limit.TheVariants.{Repos}
+use Rattle.aptly_core.specs.declared.catalogue_text.RootFault.{RootFault}
+use Rattle.aptly_core.specs.declared.catalogue_text.RootFault.TheVariants as faults
 use Rattle.aptly_core.specs.declared.root_reader.Stop.{Stop}
 use Rattle.aptly_core.specs.declared.root_reader.Stop.TheVariants.{After, OutOfMemory}
 use Rattle.aptly_core.specs.Ascending.{IsAscending}
@@ -77,3 +79,8 @@ pub record StopsHead (lines : List (List ℕ)) (good : ℕ) : Type 0 where
   pub few : good < 4
   pub front : take good (head_lines 0) ≡ take good lines
   pub bad : good < length lines → (count : ℕ) → count ≤ limit_number Repos → take (suc good) (head_lines count) ≡ take (suc good) lines → ⊥
+
+-- the fault of a text that stops behind so many lines
+abbrev pub fault_behind : ℕ → Stop → RootFault
+fault_behind before (After good) = faults.At (before + good + 1)
+fault_behind before OutOfMemory = faults.OutOfMemory
