@@ -84,7 +84,7 @@ before_one (Some b) r f = ((is_less (repo_cmp b r) f, tt), (tt, tt))
     is_less Equal e = cc
     is_less Greater e = cc
 
-before_none : (before : Option Repo) → IsAscending repo_cmp (with_before before [])
+pub before_none : (before : Option Repo) → IsAscending repo_cmp (with_before before [])
 before_none None = tt
 before_none (Some b) = (tt, tt)
 
@@ -109,6 +109,7 @@ body_front r rs j le =
 pub body_stops : (n : ℕ) (before : Option Repo) (ls : List (List ℕ)) (j : ℕ) → StopsRepo before ls j → StopsBody (suc n) before ls j
 body_stops n before ls j stop = record {
   within = stop.within;
+  few = let f = stop.few in omega arith;
   front = record {
     repos = stop.sample ∷ filler n;
     counted = ap suc (length-filler n);
@@ -159,6 +160,7 @@ ascending_behind (Some b) r rs a = a.1
 behind_one : (d : Repo) (before : Option Repo) (n : ℕ) (rest : List (List ℕ)) (j : ℕ) → IsRepo d → IsTrue (follows before d.name) → StopsBody n (Some d) rest j → StopsBody (suc n) before (repo_lines d ++ rest) (5 + j)
 behind_one d before n rest j good f stop = record {
   within = let w = stop.within in let l = length-more d rest in omega arith;
+  few = let f = stop.few in omega arith;
   front = record {
     repos = d ∷ stop.front.repos;
     counted = ap suc stop.front.counted;
@@ -202,7 +204,7 @@ behind_one d before n rest j good f stop = record {
           first = ap (λ m. take m (body_lines rs)) taken_more ∙ parts.1;
         })
 
-behind_all : (done : List Repo) (before : Option Repo) (n m k : ℕ) (rest : List (List ℕ)) (j : ℕ) → All IsRepo done → IsAscending repo_cmp (with_before before done) → StopsBody n (last_from before done) rest j
+pub behind_all : (done : List Repo) (before : Option Repo) (n m k : ℕ) (rest : List (List ℕ)) (j : ℕ) → All IsRepo done → IsAscending repo_cmp (with_before before done) → StopsBody n (last_from before done) rest j
     → m ≡ length done + n → k ≡ 5 * length done + j → StopsBody m before (flat_map repo_lines done ++ rest) k
 behind_all [] before n m k rest j all up stop e f =
     let same : n ≡ m = omega arith in

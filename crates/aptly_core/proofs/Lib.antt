@@ -9,3 +9,4 @@ pub mod StopLemmas
 pub mod BodyLemmas
 pub mod ExitLemmas
 pub mod RootLemmas
+pub mod WholeLemmas

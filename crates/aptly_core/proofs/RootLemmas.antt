@@ -67,14 +67,14 @@ Any u = Unit {0}
 module _ (ls : List (List ℕ)) where
   pub end0 : ((more : List (List ℕ)) → ls ≡ codes "snapshots 0" ∷ more → ⊥) → StopsEnd ls 0
   unfolding last_lines
-  end0 h = stops_end ls 0 (stop_here (λ u. codes "snapshots 0") (λ u. codes "publications 0" ∷ codes "end" ∷ []) Any tt ls (λ u more g e. h more e)) (λ e. omega arith)
+  end0 h = stops_end ls 0 (stop_here (λ u. codes "snapshots 0") (λ u. codes "publications 0" ∷ codes "end" ∷ []) Any tt ls (λ u more g e. h more e)) (omega arith) (λ e. omega arith)
 
   module _ (ls1 : List (List ℕ)) (is0 : ls ≡ codes "snapshots 0" ∷ ls1) where
     pub end1 : ((more : List (List ℕ)) → ls1 ≡ codes "publications 0" ∷ more → ⊥) → StopsEnd ls 1
     unfolding last_lines
     end1 h = stops_end ls 1
         (stop_later (λ u. codes "snapshots 0") (λ u. codes "publications 0" ∷ codes "end" ∷ []) Any tt ls ls1 0 is0
-        (stop_here (λ u. codes "publications 0") (λ u. codes "end" ∷ []) Any tt ls1 (λ u more g e. h more e))) (λ e. omega arith)
+        (stop_here (λ u. codes "publications 0") (λ u. codes "end" ∷ []) Any tt ls1 (λ u more g e. h more e))) (omega arith) (λ e. omega arith)
 
     module _ (ls2 : List (List ℕ)) (is1 : ls1 ≡ codes "publications 0" ∷ ls2) where
       pub end2 : ((more : List (List ℕ)) → ls2 ≡ codes "end" ∷ more → ⊥) → StopsEnd ls 2
@@ -82,7 +82,7 @@ module _ (ls : List (List ℕ)) where
       end2 h = stops_end ls 2
           (stop_later (λ u. codes "snapshots 0") (λ u. codes "publications 0" ∷ codes "end" ∷ []) Any tt ls ls1 1 is0
           (stop_later (λ u. codes "publications 0") (λ u. codes "end" ∷ []) Any tt ls1 ls2 0 is1
-          (stop_here (λ u. codes "end") (λ u. []) Any tt ls2 (λ u more g e. h more e)))) (λ e. omega arith)
+          (stop_here (λ u. codes "end") (λ u. []) Any tt ls2 (λ u more g e. h more e)))) (omega arith) (λ e. omega arith)
 
       module _ (ls3 : List (List ℕ)) (is2 : ls2 ≡ codes "end" ∷ ls3) where
         pub end3 : (ls3 ≡ [] → ⊥) → StopsEnd ls 3
@@ -91,7 +91,7 @@ module _ (ls : List (List ℕ)) where
             (stop_later (λ u. codes "snapshots 0") (λ u. codes "publications 0" ∷ codes "end" ∷ []) Any tt ls ls1 2 is0
             (stop_later (λ u. codes "publications 0") (λ u. codes "end" ∷ []) Any tt ls1 ls2 1 is1
             (stop_later (λ u. codes "end") (λ u. []) Any tt ls2 ls3 0 is2
-            (stop_past Any tt ls3)))) (λ e. absurd (h (nil_from_length ls3 (let a = ap length is0 in let b = ap length is1 in let d = ap length is2 in omega arith))))
+            (stop_past Any tt ls3)))) (omega arith) (λ e. absurd (h (nil_from_length ls3 (let a = ap length is0 in let b = ap length is1 in let d = ap length is2 in omega arith))))
 
         pub end_read : ls3 ≡ [] → ls ≡ last_lines
         unfolding last_lines

@@ -101,9 +101,10 @@ take_none zero = refl
 take_none (suc k) = refl
 
 -- where the end stops
-pub stops_end : (ls : List (List ℕ)) (n : ℕ) → Stop (λ (u : Unit {0}). last_lines) (λ u. Unit {0}) tt ls n → (n ≡ length ls → n < 3) → StopsEnd ls n
-stops_end ls n stop short before a = record {
+pub stops_end : (ls : List (List ℕ)) (n : ℕ) → Stop (λ (u : Unit {0}). last_lines) (λ u. Unit {0}) tt ls n → n < 4 → (n ≡ length ls → n < 3) → StopsEnd ls n
+stops_end ls n stop few short before a = record {
   within = stop.within;
+  few = omega arith;
   front = record {
     repos = [];
     counted = refl;

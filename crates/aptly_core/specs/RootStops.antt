@@ -67,6 +67,7 @@ pub record GoesOn (count : ℕ) (before : Option Repo) (lines : List (List ℕ))
 -- So many lines can stand there, and one more can't; or the lines end there before the root does.
 pub record StopsBody (count : ℕ) (before : Option Repo) (lines : List (List ℕ)) (good : ℕ) : Type 0 where
   pub within : good ≤ length lines
+  pub few : good < 5 * count + 4
   pub front : GoesOn count before (take good lines)
   pub bad : good < length lines → GoesOn count before (take (suc good) lines) → ⊥
   pub short : good ≡ length lines → length lines < 5 * count + 3

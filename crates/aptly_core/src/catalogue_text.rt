@@ -6,6 +6,7 @@ ghost use Rattle.aptly_core.specs.Replies.{line};
 ghost use Rattle.aptly_core.specs.Root.{blank_and, repo_lines, head_lines, last_lines, root_lines, root_text as root_of, IsRootFault};
 ghost use Rattle.aptly_core.specs.RootStops.{IfAfter, fault_behind};
 ghost use Rattle.aptly_core.specs.State.{Valid};
+ghost use Rattle.aptly_core.specs.Values.{StateView};
 ghost use Rattle.aptly_core.specs.declared.catalogue_text.RootFault.TheVariants.{OutOfMemory};
 
 use crate::machine_state::{Repo, State};
@@ -204,3 +205,9 @@ fn fault_after(stop: Stop, before: usize) -> RootFault
         Stop::OutOfMemory => RootFault::OutOfMemory,
     }
 }
+
+/// What holds of root texts.
+pub fn laws_of_root_texts()
+    // A text is the root text of one valid state at most.
+    ensures one { (state : StateView) (other : StateView) → Valid state → Valid other → root_of state ≡ root_of other → state ≡ other }
+{}
