@@ -11,3 +11,10 @@ pub mod RepoLemmas
 pub mod StepLemmas
 pub mod WordLemmas
 pub mod RootTexts
+pub mod LineLemmas
+pub mod ValueLemmas
+pub mod StopLemmas
+pub mod BodyLemmas
+pub mod ExitLemmas
+pub mod RootLemmas
+pub mod WholeLemmas

@@ -12,5 +12,8 @@ pub mod State
 pub mod Words
 pub mod WordsRead
 pub mod Replies
+pub mod Lines
 pub mod Root
+pub mod RootRead
+pub mod RootStops
 pub mod Step

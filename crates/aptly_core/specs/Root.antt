@@ -1,5 +1,5 @@
 -- The root text: a state as the lines that stand for it in a store.
-use Rattle.std.specs.Prelude.{◌≡◌, ℕ, suc, ◌+◌, ◌/◌, ◌<◌, ◌≤◌, List, [], ◌∷◌, ◌++◌, length, take, codes, unwrap_or, All, if◌then◌else◌, ◌==◌}
+use Rattle.std.specs.Prelude.{◌≡◌, ℕ, suc, ◌+◌, ◌/◌, ◌<◌, ◌≤◌, List, [], ◌∷◌, ◌++◌, length, take, codes, unwrap_or, All}
 use Rattle.std.specs.List.{flat_map}
 use Rattle.std.specs.Fmt.{decimal}
 use Rattle.aptly_core.specs.declared.machine_state.Limit.TheVariants.{Repos}
@@ -7,6 +7,7 @@ use Rattle.aptly_core.specs.declared.machine_state.Repo.{Repo}
 use Rattle.aptly_core.specs.declared.catalogue_text.RootFault.{RootFault}
 use Rattle.aptly_core.specs.declared.catalogue_text.RootFault.TheVariants.{At, OutOfMemory}
 use Rattle.aptly_core.specs.Ascending.{IsAscending}
+use Rattle.aptly_core.specs.Lines.{lines_of}
 use Rattle.aptly_core.specs.Replies.{line}
 use Rattle.aptly_core.specs.State.{IsRepo, Valid, repo_cmp, limit_number}
 use Rattle.aptly_core.specs.Values.{StateView}
@@ -43,15 +44,6 @@ root_lines state = head_lines (length state.repos) ++ body_lines state.repos
 -- the root text of a state: each of its lines with its line end
 unfoldable pub root_text : StateView → List ℕ
 root_text state = flat_map line (root_lines state)
-
--- the lines of a text without their line ends, the last with or without one
-abbrev pub begun : ℕ → List (List ℕ) → List (List ℕ)
-begun b [] = (b ∷ []) ∷ []
-begun b (first ∷ more) = (b ∷ first) ∷ more
-
-abbrev pub lines_of : List ℕ → List (List ℕ)
-lines_of [] = []
-lines_of (b ∷ bs) = if b == 10 then [] ∷ lines_of bs else begun b (lines_of bs)
 
 -- These lines can stand first in a root: they are the first lines of the root text of some state whose repositories are
 -- each as they have to be and not too many, and those whose names stand in these lines are in order. Each repository has

@@ -1,12 +1,17 @@
 //! The root text: a state as a store keeps it.
-ghost use Rattle.std.specs.Prelude.{◌≡◌, ◌++◌, OnOk, IfOk, IfErr, string_bytes, codes, [], unwrap_or};
+ghost use Rattle.std.specs.Prelude.{◌≡◌, ◌++◌, OnOk, IfOk, IfErr, string_bytes, codes, [], unwrap_or, ◌+◌, ◌<◌, ◌^◌};
 ghost use Rattle.std.specs.List.{flat_map};
 ghost use Rattle.std.specs.Fmt.{decimal};
 ghost use Rattle.aptly_core.specs.Replies.{line};
 ghost use Rattle.aptly_core.specs.Root.{blank_and, repo_lines, head_lines, last_lines, root_lines, root_text as root_of, IsRootFault};
+ghost use Rattle.aptly_core.specs.RootStops.{IfAfter, fault_behind};
+ghost use Rattle.aptly_core.specs.State.{Valid};
+ghost use Rattle.aptly_core.specs.Values.{StateView};
 ghost use Rattle.aptly_core.specs.declared.catalogue_text.RootFault.TheVariants.{OutOfMemory};
 
 use crate::machine_state::{Repo, State};
+use crate::root_reader::{Stop, read_head, read_repos, stop_of_end};
+use crate::text_lines::is_ended;
 use ap_text::Name;
 use control_stanza::Text;
 use std::alloc::{AllocError, AllocFailed, Global};
@@ -161,3 +166,48 @@ pub fn root_text(alloc: Global, state: &State) -> Result<Text, AllocError>
     put_root(&mut out, &state.repos)?;
     Text::new(alloc, out.as_str())
 }
+
+/// The state whose root text the bytes are, or the first line that can't stand there: it has not the form that the lines
+/// before it ask for, or a name, a text or the count in it breaks by itself, or with the lines before it, what a valid
+/// state keeps to.
+pub fn read_root(alloc: Global, bytes: &[u8]) -> Result<State, RootFault>
+    // What is read is written so.
+    ensures found { IfOk result (λ state. Valid state × (bytes.now ≡ root_of state)) }
+    // The root text of a valid state is refused for want of memory alone, and other bytes at their first bad line.
+    ensures least { IfErr result (IsRootFault bytes.now) }
+{
+    let (count, rest) = match read_head(alloc, bytes) {
+        Ok(head) => head,
+        Err(stop) => return Err(fault_after(stop, 0)),
+    };
+    let (repos, rest) = match read_repos(alloc, rest, count) {
+        Ok(body) => body,
+        Err(stop) => return Err(fault_after(stop, 4)),
+    };
+    if let Some(good) = stop_of_end(rest) {
+        return Err(fault_after(Stop::After(good), 4 + 5 * count));
+    }
+    if !is_ended(bytes) {
+        return Err(fault_after(Stop::After(3), 4 + 5 * count));
+    }
+    Ok(State { repos })
+}
+
+/// The fault of a text whose reading stopped behind so many lines that were read before.
+fn fault_after(stop: Stop, before: usize) -> RootFault
+    requires { IfAfter stop (λ good. before + good < 2 ^ 32) }
+    ensures { result ≡ fault_behind before stop }
+{
+    match stop {
+        Stop::After(good) => RootFault::At {
+            line: (before + good + 1) as u64,
+        },
+        Stop::OutOfMemory => RootFault::OutOfMemory,
+    }
+}
+
+/// What holds of root texts.
+pub fn laws_of_root_texts()
+    // A text is the root text of one valid state at most.
+    ensures one { (state : StateView) (other : StateView) → Valid state → Valid other → root_of state ≡ root_of other → state ≡ other }
+{}

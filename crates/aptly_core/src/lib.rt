@@ -1,4 +1,5 @@
-//! The machine: what words spell, what a state is, what each command comes to in it, and the text that stands for a state.
+//! The machine: what words spell, what a state is, what each command comes to in it, and the text that stands for a state;
+//! and its runs over a store, each command committed before its reply is said.
 #![tactic(auto)]
 
 pub mod catalogue_root;
@@ -9,5 +10,11 @@ pub mod machine_step;
 mod naming;
 pub mod reading;
 pub mod reply_text;
-pub mod run;
-pub mod status;
+mod root_reader;
+mod root_values;
+mod run;
+mod status;
+mod text_lines;
+
+pub use run::{RunFault, aptly, calls_hand_over, run_one, stored_states_are_equal};
+pub use status::{Damage, Status};
