@@ -43,10 +43,9 @@ pub record OpensTo (result : Result StateView LoadFault) (l : Log) (ops : List O
   pub loads : MayLoad (live_of l) result
   pub damaged : (damage : Damage) → result ≡ Err (Damaged damage) → ops ≡ []
 
--- a fault of a call
+-- a fault of an opening
 abbrev pub IsFault : Status → Type 0
 IsFault statuses.HostFault = Unit {0}
-IsFault statuses.InboxFault = Unit {0}
 IsFault statuses.OutOfMemory = Unit {0}
 IsFault _ = ⊥
 

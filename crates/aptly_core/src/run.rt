@@ -1,5 +1,5 @@
 //! Runs of commands over a store.
-ghost use Rattle.std.specs.Prelude.{◌≡◌, ◌≤◌, ℕ, IfOk, IfErr, Err};
+ghost use Rattle.std.specs.Prelude.{◌≡◌, ◌≤◌, ℕ, List, IfOk, IfErr, Err};
 ghost use Rattle.ap_host.specs.Calls.{CauseOf, HasCause, Rose};
 ghost use Rattle.ap_host.specs.Changes.{GoesOn};
 ghost use Rattle.aptly_core.specs.declared.run.RunFault.TheVariants.{HostFault, InboxFault, OutOfMemory};
@@ -7,15 +7,20 @@ ghost use Rattle.aptly_core.specs.declared.status.Status.TheVariants as Status;
 ghost use Rattle.aptly_core.specs.declared.catalogue_root.LoadFault.TheVariants as LoadFault;
 ghost use Rattle.aptly_core.specs.declared.status.Damage.{Damage};
 ghost use Rattle.aptly_core.specs.Commits.{Saves};
-ghost use Rattle.aptly_core.specs.Calls.{Called};
+ghost use Rattle.aptly_core.specs.Calls.{Called, CalledWith, IsUsageAnswer, LawOfStoredStates, SaysUsage, TellsUsage};
+ghost use Rattle.aptly_core.specs.Machine.{machine};
+ghost use Rattle.aptly_core.specs.Words.{Commands, IsUsagePlace};
+ghost use Rattle.run_model.specs.Call.{HandOverLaw};
+ghost use Rattle.aptly_core.specs.declared.command_words.Command.{Command as CommandOf};
 ghost use Rattle.aptly_core.specs.Opens.{Enters, SettlesTo, OpensTo, RunsClaimed, IsClaimedStatus};
 ghost use Rattle.aptly_core.specs.Runs.{RunsOne, RunsList, ComesTo, EndsWith, IsRunStatus, Turns, TurnComes, IsTurnEnd, of_host, status_of_fault, next_of_done};
 ghost use Rattle.aptly_core.specs.State.{Valid};
 
 use crate::catalogue_root::{LoadFault, commit, load};
-use crate::command_words::Command;
+use crate::command_words::{Command, WordFault, Words, read_words};
 use crate::machine_state::{Refusal, State};
 use crate::machine_step::step;
+use crate::reply_text::usage_line;
 use crate::status::Status;
 use ap_host::{Host, HostErr, Inbox};
 use stage_file::Stage;
@@ -237,7 +242,7 @@ fn run_claimed<H: Host, I: Inbox>(
 }
 
 /// The call of commands.
-pub fn run_commands<H: Host, I: Inbox>(
+fn run_commands<H: Host, I: Inbox>(
     alloc: Global,
     host: &mut H,
     inbox: &mut I,
@@ -258,3 +263,70 @@ pub fn run_commands<H: Host, I: Inbox>(
         Err(HostErr::OutOfMemory) => Status::OutOfMemory,
     }
 }
+
+/// Says the usage line.
+fn say_usage<H: Host>(alloc: Global, host: &mut H, place: u64) -> Result<(), HostErr>
+    ensures log { GoesOn (H.log host.old) (H.log host.new) (λ l. SaysUsage place result) }
+    ensures cause { HasCause (H.faults host.old) (H.faults host.new) result }
+{
+    let line = usage_line(alloc, place)?;
+    host.say(line.as_str().as_bytes())
+}
+
+/// The call of words that spell no commands.
+fn tell_usage<H: Host>(alloc: Global, host: &mut H, place: u64) -> Status
+    ensures place { (p : ℕ) → result ≡ Status.Usage p → p ≡ place }
+    ensures log { GoesOn (H.log host.old) (H.log host.new) (λ l. TellsUsage place result) }
+    ensures host_later { H.faults host.old ≤ H.faults host.new }
+    ensures host_fault { result ≡ Status.HostFault → Rose (H.faults host.old) (H.faults host.new) }
+    ensures only { IsUsageAnswer result }
+{
+    match say_usage(alloc, host, place) {
+        Ok(()) => Status::Usage(place),
+        Err(HostErr::Failed) => Status::HostFault,
+        Err(HostErr::OutOfMemory) => Status::OutOfMemory,
+    }
+}
+
+/// One call of the program. It claims the store, makes what it holds durable, loads it, and runs the commands that the words
+/// spell, in turn up to the first refused one; each is committed before its reply is said. Words that spell no commands have
+/// the usage line said, and nothing else is done. `now` is in seconds since 1970.
+///
+/// Whatever moment the call is stopped at, the store then stands for the state after some first commands, each that was
+/// answered among them, and the next call goes on from there.
+pub fn aptly<H: Host, I: Inbox>(
+    alloc: Global,
+    words: &Words,
+    now: i64,
+    host: &mut H,
+    inbox: &mut I,
+) -> Status
+    // What the call did, on a host that tells its log.
+    ensures log { GoesOn (H.log host.old) (H.log host.new) (CalledWith words.now (Rose (H.faults host.old) (H.faults host.new)) (Rose (I.faults inbox.old) (I.faults inbox.new)) result) }
+    // On every host: the usage place is the words'.
+    ensures usage_place { (place : ℕ) → result ≡ Status.Usage place → IsUsagePlace words.now place }
+    // And words that spell no commands are answered so, but for a fault of the host or want of memory.
+    ensures usage_complete { ((commands : List CommandOf) → Commands words.now commands → ⊥) → IsUsageAnswer result }
+    // Faults are told only where their count rose.
+    ensures host_fault { result ≡ Status.HostFault → Rose (H.faults host.old) (H.faults host.new) }
+    ensures inbox_fault { result ≡ Status.InboxFault → Rose (I.faults inbox.old) (I.faults inbox.new) }
+    ensures host_later { H.faults host.old ≤ H.faults host.new }
+    ensures inbox_later { I.faults inbox.old ≤ I.faults inbox.new }
+{
+    match read_words(alloc, words) {
+        Ok(commands) => run_commands(alloc, host, inbox, &commands, now),
+        Err(WordFault::At { place }) => tell_usage(alloc, host, place),
+        Err(WordFault::OutOfMemory) => Status::OutOfMemory,
+    }
+}
+
+/// A call may be stopped at any moment, or end: the next one may begin on what it left, at the state after the commands that
+/// were answered or one more. So no answered command is ever lost, in any list of calls.
+pub fn calls_hand_over()
+    ensures { HandOverLaw machine }
+{}
+
+/// Files hold one state at most.
+pub fn stored_states_are_equal()
+    ensures { LawOfStoredStates }
+{}
