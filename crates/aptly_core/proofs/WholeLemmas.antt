@@ -1,5 +1,5 @@
 -- Whole roots: the first bad line of a text, and the state of a good one.
-use Rattle.std.proofs.Common.{rules, ◌≡◌, ◌≢◌, ℕ, zero, suc, ◌+◌, ◌-◌, ◌*◌, ◌/◌, ◌%◌, ◌<◌, ◌≤◌, ◌^◌, Bool, true, false, List, [], ◌∷◌, ◌++◌, length, take, get_or, Option, Some, None, IsTrue, IfSome, All, codes, Ordering, Less, refl, sym, ap, ◌∙◌, subst, arith, append_assoc, append-nil, inl, inr}
+use Rattle.std.proofs.Common.{◌≡◌, ℕ, zero, suc, ◌+◌, ◌*◌, ◌/◌, ◌%◌, ◌<◌, ◌≤◌, ◌^◌, true, false, List, [], ◌∷◌, ◌++◌, length, take, Option, Some, None, IsTrue, IfSome, All, codes, refl, sym, ap, ◌∙◌, subst, arith, append_assoc, inl, inr}
 use Rattle.std.specs.List.{flat_map, list_any, list_all}
 use Rattle.std.specs.Option.{unwrap_or}
 use Rattle.std.specs.Fmt.{decimal}
@@ -18,9 +18,9 @@ use Rattle.aptly_core.specs.Ascending.{IsAscending, IsBelow}
 use Rattle.aptly_core.specs.Lines.{lines_of, is_ended}
 use Rattle.aptly_core.specs.Replies.{line}
 use Rattle.aptly_core.specs.Root.{blank_and, repo_lines, last_lines, body_lines, head_lines, root_lines, root_text, CanStand, IsFirstBadLine, IsRootFault}
-use Rattle.aptly_core.specs.RootRead.{IsCount, count_line}
+use Rattle.aptly_core.specs.RootRead.{count_line}
 use Rattle.aptly_core.specs.RootStops.{StopsHead, StopsEnd, StopsBody, GoesOn, ReadsBody, IfAfter, fault_behind, last_from}
-use Rattle.aptly_core.specs.State.{IsRepo, IsLineText, is_line, is_line_byte, is_component, Valid, repo_cmp}
+use Rattle.aptly_core.specs.State.{IsRepo, is_line, is_line_byte, Valid, repo_cmp}
 use Rattle.aptly_core.specs.Values.{StateView}
 use Rattle.aptly_core.proofs.BodyLemmas.{length-repo_lines, length-last_lines, repo_front, repo_same, behind_all, before_none}
 use Rattle.aptly_core.proofs.LineLemmas.{ArePlain, IsPlain, lines_of_text, text_of_lines, ended_push}

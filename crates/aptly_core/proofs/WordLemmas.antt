@@ -1,5 +1,5 @@
 -- Where the reading of words stops is their usage place.
-use Rattle.std.proofs.Common.{rules, subst, ◌≡◌, ℕ, suc, ◌+◌, ◌<◌, ◌≤◌, List, [], ◌∷◌, ◌++◌, length, take, Result, Ok, Err, Bool, true, false, cond, inl, inr, codes, refl, sym, ap, ◌∙◌, arith, IsFalse}
+use Rattle.std.proofs.Common.{rules, subst, ◌≡◌, ℕ, suc, ◌<◌, ◌≤◌, List, [], ◌∷◌, ◌++◌, length, take, Err, Bool, true, false, inl, inr, codes, refl, ap, arith}
 use Rattle.std.specs.Bool.{if◌then◌else◌}
 use Rattle.std.specs.Str.{bytes_eq}
 use Rattle.std.proofs.lemmas.Slice.Eq.{bytes_eq-Decides}

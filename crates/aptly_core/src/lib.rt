@@ -9,4 +9,6 @@ mod naming;
 pub mod reply_text;
 mod root_reader;
 mod root_values;
+#[cfg(test)]
+mod tests;
 mod text_lines;
