@@ -1,5 +1,5 @@
 -- Where the repositories of a root stop.
-use Rattle.std.proofs.Common.{rules, ◌≡◌, ◌≢◌, ℕ, zero, suc, ◌+◌, ◌-◌, ◌*◌, ◌/◌, ◌<◌, ◌≤◌, Bool, true, false, List, [], ◌∷◌, ◌++◌, length, take, get_or, Option, Some, None, IsTrue, IfSome, All, codes, Ordering, Less, Equal, Greater, refl, sym, ap, ◌∙◌, subst, arith, append_assoc, append-nil}
+use Rattle.std.proofs.Common.{◌≡◌, ℕ, zero, suc, ◌+◌, ◌-◌, ◌*◌, ◌/◌, ◌<◌, ◌≤◌, true, false, List, [], ◌∷◌, ◌++◌, length, take, Option, Some, None, IsTrue, IfSome, All, codes, Ordering, Less, Equal, Greater, refl, sym, ap, ◌∙◌, subst, arith, append_assoc, append-nil}
 use Rattle.std.specs.Ordering.{is_lt}
 use Rattle.std.specs.Option.{unwrap_or}
 use Rattle.std.specs.List.{flat_map}
@@ -10,10 +10,10 @@ use Rattle.ap_text.specs.Names.{is_name}
 use Rattle.aptly_core.specs.declared.machine_state.Repo.{Repo}
 use Rattle.aptly_core.specs.declared.root_reader.Stop.{Stop}
 use Rattle.aptly_core.specs.declared.root_reader.Stop.TheVariants.{After, OutOfMemory}
-use Rattle.aptly_core.specs.Ascending.{IsAscending, IsBelow}
-use Rattle.aptly_core.specs.Root.{blank_and, repo_lines, last_lines, body_lines, head_lines}
-use Rattle.aptly_core.specs.RootStops.{StopsRepo, StopsBody, GoesOn, ReadsRepo, ReadsBody, IfAfter, last_from, with_before, follows}
-use Rattle.aptly_core.specs.State.{IsRepo, repo_cmp, name_cmp}
+use Rattle.aptly_core.specs.Ascending.{IsAscending}
+use Rattle.aptly_core.specs.Root.{blank_and, repo_lines, last_lines, body_lines}
+use Rattle.aptly_core.specs.RootStops.{StopsRepo, StopsBody, ReadsRepo, ReadsBody, IfAfter, last_from, with_before, follows}
+use Rattle.aptly_core.specs.State.{IsRepo, repo_cmp}
 use Rattle.aptly_core.specs.Step.{new_repo}
 use Rattle.aptly_core.proofs.AscendingLemmas.{below_more}
 use Rattle.aptly_core.proofs.RepoLemmas.{repo_total}

@@ -18,7 +18,6 @@ use Rattle.run_model.proofs.Opens.{opened_then_ran, broke_opening}
 use Rattle.aptly_core.specs.declared.catalogue_root.LoadFault.{LoadFault}
 use Rattle.aptly_core.specs.declared.catalogue_root.LoadFault.TheVariants as faults
 use Rattle.aptly_core.specs.declared.command_words.Command.{Command}
-use Rattle.aptly_core.specs.declared.command_words.Command.TheVariants.{RepoCreate}
 use Rattle.aptly_core.specs.declared.machine_state.Refusal.{Refusal}
 use Rattle.aptly_core.specs.declared.status.Damage.{Damage}
 use Rattle.aptly_core.specs.declared.status.Status.{Status}
@@ -32,11 +31,12 @@ use Rattle.aptly_core.specs.Runs.{RanTo, RunsList, EndsWith, IsRunStatus, SaysRe
 use Rattle.aptly_core.specs.State.{Valid}
 use Rattle.aptly_core.specs.Store.{root, IsRootOf, Stored, Sound, SoundForNone, IsDamage, Open}
 use Rattle.aptly_core.specs.Values.{StateView}
-use Rattle.aptly_core.specs.Words.{Spells, Commands, IsUsagePlace, is_dashed}
+use Rattle.aptly_core.specs.Words.{Commands, IsUsagePlace}
 use Rattle.aptly_core.proofs.Lawful.{lawful}
 use Rattle.aptly_core.proofs.RunLemmas.{IsWord, words_each, say_words}
 use Rattle.aptly_core.proofs.SettleLemmas.{settling_each, settling_work, settling_quiet, settling_target, nothing_settled}
 use Rattle.aptly_core.proofs.WholeLemmas.{one_state}
+use Rattle.aptly_core.proofs.WordLemmas.{one_list, no_place}
 
 -- files hold one state at most
 pub stored_once : (f : Files) (s t : StateView) → Stored f s → Stored f t → s ≡ t
@@ -177,7 +177,7 @@ called_busy cs l ops is = subst (λ (x : List Op). Called cs Busy l x) (sym is) 
   damaged = λ d e. absurd (cc);
   none = λ none got. absurd (got_not got.0 (sym got.1));
   refused = λ q e. absurd (cc);
-  run = λ s t entry. (None, refl, refl);
+  run = λ s t entry. (None, refl, refl, broke_opening machine lawful None l s t cs (Claim false ∷ []) (opened_claimed machine l s t entry false (record { kinds = (tt, tt); once = tt }) (λ no. no)));
 })
 
 -- a call that broke off at its claim or before
@@ -209,34 +209,6 @@ module _ (cs : List Command) (status : Status) (l : Log) (is : IsFault status) w
   called_fault ops (inl e) = subst (λ (x : List Op). Called cs status l x) (sym e) called_none
   called_fault ops (inr e) = subst (λ (x : List Op). Called cs status l x) (sym e) called_got
 
--- words spell one list of commands at most
-third : List (List ℕ) → List ℕ
-third (x ∷ y ∷ z ∷ more) = z
-third _ = []
-
-fourth : List (List ℕ) → List ℕ
-fourth (w ∷ x ∷ y ∷ z ∷ more) = z
-fourth _ = []
-
-spelled_so : (words : List (List ℕ)) (c d : Command) → Spells words c → Spells words d → c ≡ d
-unfolding third fourth
-spelled_so words (RepoCreate n) (RepoCreate m) (inl a) (inl b) = ap RepoCreate (ap third (sym a.0 ∙ b.0))
-spelled_so words (RepoCreate n) (RepoCreate m) (inr a) (inr b) = ap RepoCreate (ap fourth (sym a ∙ b))
-spelled_so words (RepoCreate n) (RepoCreate m) (inl a) (inr b) = absurd (omega (arith, ap length (sym a.0 ∙ b)))
-spelled_so words (RepoCreate n) (RepoCreate m) (inr a) (inl b) = absurd (omega (arith, ap length (sym a ∙ b.0)))
-
-pub spelled_once : (words : List (List ℕ)) (cs ds : List Command) → Commands words cs → Commands words ds → cs ≡ ds
-spelled_once words [] ds a b = absurd a
-spelled_once words (c ∷ c2 ∷ cs) ds a b = absurd a
-spelled_once words (c ∷ []) [] a b = absurd b
-spelled_once words (c ∷ []) (d ∷ d2 ∷ ds) a b = absurd b
-spelled_once words (c ∷ []) (d ∷ []) a b = ap (λ (x : Command). x ∷ []) (spelled_so words c d a b)
-
-usage_none : (words : List (List ℕ)) (place : ℕ) → IsUsagePlace words place → (cs : List Command) → Commands words cs → ⊥
-usage_none words place is [] a = a
-usage_none words place is (c ∷ []) a = is.none c a
-usage_none words place is (c ∷ d ∷ cs) a = a
-
 -- words that spell commands
 module _ (words : List (List ℕ)) (cs : List Command) (found : Commands words cs) (HostRose InboxRose : Type 0) (status : Status) (host : status ≡ HostFault → HostRose) (inbox : status ≡ InboxFault → InboxRose) (l : Log) (ops : List Op) (w : Called cs status l ops) where
   run_answer : (status : Status) → (status ≡ HostFault → HostRose) → (status ≡ InboxFault → InboxRose) → ¬ HostRose → ¬ InboxRose → GotClaim ops → (s t : StateView) → CallTo None l s t cs status ops → IsRunAnswer status
@@ -247,7 +219,7 @@ module _ (words : List (List ℕ)) (cs : List Command) (found : Commands words c
   run_answer InboxFault h i nh ni got s t call = ni (i refl)
   run_answer (Usage p) h i nh ni got s t call = call
   run_answer (Damaged d) h i nh ni got s t call = call
-  run_answer Busy h i nh ni got s t call = got_not got.0 (sym got.1 ∙ call)
+  run_answer Busy h i nh ni got s t call = got_not got.0 (sym got.1 ∙ call.0)
 
   damaged_answer : (status : Status) → (status ≡ HostFault → HostRose) → ¬ HostRose → IsDamagedOrFault status → IsDamagedAnswer status
   damaged_answer (Damaged d) h nh is = tt
@@ -262,7 +234,7 @@ module _ (words : List (List ℕ)) (cs : List Command) (found : Commands words c
   pub called_with : CalledWith words HostRose InboxRose status l ops
   called_with = record {
     usage = λ none. absurd (none cs found);
-    called = λ ds d. subst (λ (x : List Command). Called x status l ops) (spelled_once words cs ds found d) w;
+    called = λ ds d. subst (λ (x : List Command). Called x status l ops) (one_list words cs ds found d) w;
     answers = λ ds d nh ni got s t entry. let r = w.run s t entry in run_answer status host inbox nh ni got s t (subst (λ (k : Option (List ℕ)). CallTo k l s t cs status ops) r.1 r.2);
     damaged = λ ds d nh got none. damaged_answer status host nh (w.none none got);
   }
@@ -271,9 +243,9 @@ module _ (words : List (List ℕ)) (cs : List Command) (found : Commands words c
 pub told_with : (words : List (List ℕ)) (place : ℕ) → IsUsagePlace words place → (HostRose InboxRose : Type 0) (status : Status) (l : Log) (ops : List Op) → TellsUsage place status ops → CalledWith words HostRose InboxRose status l ops
 told_with words place is H I status l ops w = record {
   usage = λ none. record { first = w.first; usage = w.usage; front = inr (place, is, w.front) };
-  called = λ ds d. absurd (usage_none words place is ds d);
-  answers = λ ds d nh ni got s t entry. absurd (usage_none words place is ds d);
-  damaged = λ ds d nh got none. absurd (usage_none words place is ds d);
+  called = λ ds d. absurd (no_place words ds place d is);
+  answers = λ ds d nh ni got s t entry. absurd (no_place words ds place d is);
+  damaged = λ ds d nh got none. absurd (no_place words ds place d is);
 }
 
 -- want of memory for the commands

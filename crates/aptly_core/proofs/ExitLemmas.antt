@@ -1,13 +1,12 @@
 -- Each place where the reading of a repository can stop.
-use Rattle.std.proofs.Common.{◌≡◌, ℕ, suc, ◌+◌, ◌<◌, ◌≤◌, true, false, List, [], ◌∷◌, ◌++◌, Option, Some, None, IsTrue, IfSome, codes, refl, sym, ap, ◌∙◌, subst, arith}
+use Rattle.std.proofs.Common.{◌≡◌, ℕ, false, List, ◌∷◌, ◌++◌, Option, Some, None, IsTrue, codes, refl, ap, ◌∙◌, subst, arith}
 use Rattle.std.specs.Option.{MatchOption}
 use Rattle.std.proofs.lemmas.List.{append_cancel_left}
-use Rattle.ap_text.specs.Names.{is_name}
 use Rattle.aptly_core.specs.declared.machine_state.Repo.{Repo}
-use Rattle.aptly_core.specs.Root.{blank_and, repo_lines}
+use Rattle.aptly_core.specs.Root.{repo_lines}
 use Rattle.aptly_core.specs.RootRead.{comment_line, distribution_line, component_line, IsName, IsOptionalName, IsComponent}
 use Rattle.aptly_core.specs.RootStops.{StopsRepo, ReadsRepo, follows}
-use Rattle.aptly_core.specs.State.{IsRepo, IsLineText, is_component}
+use Rattle.aptly_core.specs.State.{IsLineText}
 use Rattle.aptly_core.specs.Step.{new_repo}
 use Rattle.aptly_core.proofs.StopLemmas.{stop_here, stop_later, stops_repo, MayStand, line0, line1, line2, line3, line4, tail1, tail2, tail3, tail4, tail5}
 use Rattle.aptly_core.proofs.StepLemmas.{new_repo_good}

@@ -1,16 +1,10 @@
 -- The head and the end of a root, and the whole text.
-use Rattle.std.proofs.Common.{rules, ◌≡◌, ◌≢◌, ℕ, zero, suc, ◌+◌, ◌-◌, ◌*◌, ◌/◌, ◌<◌, ◌≤◌, ◌^◌, Bool, true, false, List, [], ◌∷◌, ◌++◌, length, take, drop, Option, Some, None, IsTrue, IfSome, All, codes, refl, sym, ap, ◌∙◌, subst, arith, append_assoc, append-nil, inl, inr}
-use Rattle.std.specs.List.{flat_map, list_any, list_all}
-use Rattle.std.specs.Fmt.{decimal}
+use Rattle.std.proofs.Common.{◌≡◌, ℕ, ◌<◌, true, false, List, [], ◌∷◌, ◌++◌, length, codes, refl, ap, ◌∙◌, arith}
 use Rattle.std.specs.Bool.{◌==◌}
-use Rattle.std.proofs.lemmas.Bool.{cases_lt, and_parts}
 use Rattle.std.proofs.lemmas.Bool.Decides.{nat_tests}
-use Rattle.std.proofs.lemmas.Fmt.{decimal_injective, decimal_by_steps}
-use Rattle.std.proofs.lemmas.List.{append_cancel_left, length-take-le, length-append, take-append-le, nil_from_length}
-use Rattle.aptly_core.specs.declared.machine_state.Repo.{Repo}
-use Rattle.aptly_core.specs.Lines.{lines_of, is_ended}
-use Rattle.aptly_core.specs.Replies.{line}
-use Rattle.aptly_core.specs.Root.{repo_lines, last_lines, body_lines, head_lines, root_lines}
+use Rattle.std.proofs.lemmas.List.{nil_from_length}
+use Rattle.aptly_core.specs.Lines.{lines_of}
+use Rattle.aptly_core.specs.Root.{last_lines, head_lines}
 use Rattle.aptly_core.specs.RootRead.{IsCount, count_line}
 use Rattle.aptly_core.specs.RootStops.{StopsHead, StopsEnd}
 use Rattle.aptly_core.proofs.LineLemmas.{lines_some}

@@ -1,13 +1,11 @@
 -- Lines that are read one by one: how far they can stand.
-use Rattle.std.proofs.Common.{rules, ◌≡◌, ◌≢◌, ℕ, zero, suc, ◌+◌, ◌*◌, ◌/◌, ◌<◌, ◌≤◌, Bool, true, false, List, [], ◌∷◌, ◌++◌, length, take, Option, Some, None, IsTrue, All, codes, refl, sym, ap, ◌∙◌, subst, arith, append_assoc}
-use Rattle.std.specs.Ordering.{is_lt}
-use Rattle.std.specs.List.{flat_map}
-use Rattle.std.proofs.lemmas.List.{append_cancel_left, length-take-le, length-append, take-append-le}
+use Rattle.std.proofs.Common.{◌≡◌, ℕ, zero, suc, ◌+◌, ◌/◌, ◌<◌, ◌≤◌, List, [], ◌∷◌, ◌++◌, length, take, Option, Some, IsTrue, codes, refl, sym, ap, ◌∙◌, subst, arith}
+use Rattle.std.proofs.lemmas.List.{length-take-le}
 use Rattle.aptly_core.specs.declared.machine_state.Repo.{Repo}
 use Rattle.aptly_core.specs.Ascending.{IsAscending}
-use Rattle.aptly_core.specs.Root.{repo_lines, last_lines, body_lines, head_lines}
+use Rattle.aptly_core.specs.Root.{repo_lines, last_lines, body_lines}
 use Rattle.aptly_core.specs.RootRead.{comment_line, distribution_line, component_line}
-use Rattle.aptly_core.specs.RootStops.{StopsRepo, StopsBody, StopsEnd, StopsHead, GoesOn, last_from, with_before, follows}
+use Rattle.aptly_core.specs.RootStops.{StopsRepo, StopsEnd, last_from, with_before, follows}
 use Rattle.aptly_core.specs.State.{IsRepo, repo_cmp}
 
 pub last_from_push : (before : Option Repo) (repos : List Repo) (repo : Repo) → last_from before (repos ++ repo ∷ []) ≡ Some repo

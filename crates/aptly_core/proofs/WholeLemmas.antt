@@ -1,13 +1,13 @@
 -- Whole roots: the first bad line of a text, and the state of a good one.
-use Rattle.std.proofs.Common.{rules, ◌≡◌, ◌≢◌, ℕ, zero, suc, ◌+◌, ◌-◌, ◌*◌, ◌/◌, ◌%◌, ◌<◌, ◌≤◌, ◌^◌, Bool, true, false, List, [], ◌∷◌, ◌++◌, length, take, get_or, Option, Some, None, IsTrue, IfSome, All, codes, Ordering, Less, refl, sym, ap, ◌∙◌, subst, arith, append_assoc, append-nil, inl, inr}
+use Rattle.std.proofs.Common.{◌≡◌, ℕ, zero, suc, ◌+◌, ◌*◌, ◌/◌, ◌%◌, ◌<◌, ◌≤◌, ◌^◌, true, false, List, [], ◌∷◌, ◌++◌, length, take, Option, Some, None, IsTrue, IfSome, All, codes, refl, sym, ap, ◌∙◌, subst, arith, append_assoc, inl, inr}
 use Rattle.std.specs.List.{flat_map, list_any, list_all}
 use Rattle.std.specs.Option.{unwrap_or}
 use Rattle.std.specs.Fmt.{decimal}
 use Rattle.std.specs.Bool.{◌==◌}
-use Rattle.std.proofs.lemmas.Bool.{cases_lt, and_parts, or_parts}
+use Rattle.std.proofs.lemmas.Bool.{cases_lt, cases_order, and_parts, or_parts}
 use Rattle.std.proofs.lemmas.Bool.Decides.{nat_tests}
 use Rattle.std.proofs.lemmas.Fmt.{decimal_injective, decimal_by_steps}
-use Rattle.std.proofs.lemmas.List.{append_cancel_left, length-take-le, length-append, take-append-le}
+use Rattle.std.proofs.lemmas.List.{take-take, append_cancel_left, length-take-le, length-append, take-append-le}
 use Rattle.std.proofs.Math.Seq.{take-append-add}
 use Rattle.ap_text.specs.Names.{is_name, is_name_byte}
 use Rattle.aptly_core.specs.declared.machine_state.Repo.{Repo}
@@ -18,9 +18,9 @@ use Rattle.aptly_core.specs.Ascending.{IsAscending, IsBelow}
 use Rattle.aptly_core.specs.Lines.{lines_of, is_ended}
 use Rattle.aptly_core.specs.Replies.{line}
 use Rattle.aptly_core.specs.Root.{blank_and, repo_lines, last_lines, body_lines, head_lines, root_lines, root_text, CanStand, IsFirstBadLine, IsRootFault}
-use Rattle.aptly_core.specs.RootRead.{IsCount, count_line}
+use Rattle.aptly_core.specs.RootRead.{count_line}
 use Rattle.aptly_core.specs.RootStops.{StopsHead, StopsEnd, StopsBody, GoesOn, ReadsBody, IfAfter, fault_behind, last_from}
-use Rattle.aptly_core.specs.State.{IsRepo, IsLineText, is_line, is_line_byte, is_component, Valid, repo_cmp}
+use Rattle.aptly_core.specs.State.{IsRepo, is_line, is_line_byte, Valid, repo_cmp}
 use Rattle.aptly_core.specs.Values.{StateView}
 use Rattle.aptly_core.proofs.BodyLemmas.{length-repo_lines, length-last_lines, repo_front, repo_same, behind_all, before_none}
 use Rattle.aptly_core.proofs.LineLemmas.{ArePlain, IsPlain, lines_of_text, text_of_lines, ended_push}
@@ -351,3 +351,29 @@ one_state state other v w e =
     let counted = count_same (length state.repos) (length other.repos) v.few w.few parts.0 in
     let same = repos_same state.repos other.repos v.repos w.repos counted parts.1 in
     (λ i. record { repos = same i })
+
+-- ---- one first bad line
+can_front : (ls : List (List ℕ)) (k : ℕ) → k ≤ length ls → CanStand ls → CanStand (take k ls)
+can_front ls k le can = record {
+  state = can.state;
+  first = ap (λ m. take m (root_lines can.state)) taken ∙ sym (take-take k (length ls) (root_lines can.state) le) ∙ ap (take k) can.first;
+  repos = can.repos;
+  few = can.few;
+  sorted = subst (λ (m : ℕ). IsAscending repo_cmp (take (m / 5) can.state.repos)) (sym taken)
+      (subst (IsAscending repo_cmp) (take-take (k / 5) (length ls / 5) can.state.repos (fifths k (length ls) le)) (ascending_take (take (length ls / 5) can.state.repos) (k / 5) can.sorted));
+}
+  where
+    taken : length (take k ls) ≡ k
+    taken = length-take-le k ls le
+
+    fifths : (m n : ℕ) → m ≤ n → m / 5 ≤ n / 5
+    fifths m n le = omega arith
+
+not_before : (text : List ℕ) (m n : ℕ) → IsFirstBadLine text m → IsFirstBadLine text n → m < n → ⊥
+not_before text m n a b lt =
+    let p = a.is in let q = b.is in let w = b.within in
+    let front = can_front (take b.good (lines_of text)) (suc a.good) (let t = length-take-le b.good (lines_of text) w in omega arith) b.before in
+    a.bad (omega arith) (subst CanStand (take-take (suc a.good) b.good (lines_of text) (omega arith)) front)
+
+pub one_line : (text : List ℕ) (m n : ℕ) → IsFirstBadLine text m → IsFirstBadLine text n → m ≡ n
+one_line text m n a b = elim (cases_order m n) [ inl same ↦ same | inr apart ↦ elim apart [ inl lt ↦ absurd (not_before text m n a b lt) | inr gt ↦ absurd (not_before text n m b a gt) ] ]

@@ -1,11 +1,13 @@
 -- Where the reading of words stops is their usage place.
-use Rattle.std.proofs.Common.{rules, subst, ◌≡◌, ℕ, suc, ◌+◌, ◌<◌, ◌≤◌, List, [], ◌∷◌, ◌++◌, length, take, Result, Ok, Err, Bool, true, false, cond, inl, inr, codes, refl, sym, ap, ◌∙◌, arith, IsFalse}
+use Rattle.std.proofs.Common.{rules, subst, ◌≡◌, ℕ, suc, ◌<◌, ◌≤◌, List, [], ◌∷◌, ◌++◌, length, take, drop, Err, Bool, true, false, inl, inr, codes, refl, sym, ap, ◌∙◌, append_assoc, arith}
+use Rattle.std.proofs.lemmas.Bool.{cases_order}
+use Rattle.std.proofs.lemmas.List.{take-append-drop, take-take}
 use Rattle.std.specs.Bool.{if◌then◌else◌}
 use Rattle.std.specs.Str.{bytes_eq}
 use Rattle.std.proofs.lemmas.Slice.Eq.{bytes_eq-Decides}
 use Rattle.aptly_core.specs.declared.command_words.Command.{Command}
 use Rattle.aptly_core.specs.declared.command_words.Command.TheVariants.{RepoCreate}
-use Rattle.aptly_core.specs.Words.{Spells, Begins, IsUsagePlace, is_dashed}
+use Rattle.aptly_core.specs.Words.{Spells, Begins, Commands, IsUsagePlace, is_dashed}
 use Rattle.aptly_core.specs.WordsRead.{group_of, verb_of, flags_of, name_at}
 
 same : (a b : List ℕ) → bytes_eq a b ≡ true → a ≡ b
@@ -112,3 +114,34 @@ usage_place (g ∷ ws) p e = by_group (bytes_eq g (codes "repo")) refl e
     by_group : (b : Bool) → bytes_eq g (codes "repo") ≡ b → (if b then verb_of ws else Err 0) ≡ Err p → IsUsagePlace (g ∷ ws) p
     by_group true f e = verb_place g ws p f e
     by_group false f e = place (g ∷ ws) 0 (not_group g ws f) (omega arith) begins_none (λ more c lt s. not_group g more f c s) p cc
+
+-- ---- one list of commands, and one place
+one_command : (ws : List (List ℕ)) (c d : Command) → Spells ws c → Spells ws d → c ≡ d
+one_command ws (RepoCreate m) (RepoCreate n) (inl p) (inl q) = let same : m ≡ n = cc in ap RepoCreate same
+one_command ws (RepoCreate m) (RepoCreate n) (inl p) (inr q) = cc
+one_command ws (RepoCreate m) (RepoCreate n) (inr p) (inl q) = cc
+one_command ws (RepoCreate m) (RepoCreate n) (inr p) (inr q) = let same : m ≡ n = cc in ap RepoCreate same
+
+pub one_list : (ws : List (List ℕ)) (a b : List Command) → Commands ws a → Commands ws b → a ≡ b
+one_list ws [] b p q = absurd p
+one_list ws (c ∷ d ∷ cs) b p q = absurd p
+one_list ws (c ∷ []) [] p q = absurd q
+one_list ws (c ∷ []) (d ∷ e ∷ ds) p q = absurd q
+one_list ws (c ∷ []) (d ∷ []) p q = ap (λ x. x ∷ []) (one_command ws c d p q)
+
+begins_front : (ws : List (List ℕ)) (k : ℕ) → Begins ws → Begins (take k ws)
+begins_front ws k b =
+    (drop k ws ++ b.0, b.1, subst (λ (x : List (List ℕ)). Spells x b.1) (ap (λ x. x ++ b.0) (sym (take-append-drop k ws)) ∙ append_assoc (take k ws) (drop k ws) b.0) b.2)
+
+not_before : (ws : List (List ℕ)) (p q : ℕ) → IsUsagePlace ws p → IsUsagePlace ws q → p < q → ⊥
+not_before ws p q a b lt =
+    let w = b.within in
+    a.word (omega arith) (subst Begins (take-take (suc p) q ws (omega arith)) (begins_front (take q ws) (suc p) b.before))
+
+pub one_place : (ws : List (List ℕ)) (p q : ℕ) → IsUsagePlace ws p → IsUsagePlace ws q → p ≡ q
+one_place ws p q a b = elim (cases_order p q) [ inl same ↦ same | inr apart ↦ elim apart [ inl lt ↦ absurd (not_before ws p q a b lt) | inr gt ↦ absurd (not_before ws q p b a gt) ] ]
+
+pub no_place : (ws : List (List ℕ)) (cs : List Command) (p : ℕ) → Commands ws cs → IsUsagePlace ws p → ⊥
+no_place ws [] p h a = absurd h
+no_place ws (c ∷ []) p h a = a.none c h
+no_place ws (c ∷ d ∷ cs) p h a = absurd h

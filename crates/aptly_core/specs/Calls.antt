@@ -42,7 +42,7 @@ CallTo large l s t commands InboxFault ops = RanAll machine large l s t commands
 CallTo large l s t commands OutOfMemory ops = RanAll machine large l s t commands None ops
 CallTo large l s t commands (Usage place) ops = ⊥
 CallTo large l s t commands (Damaged damage) ops = ⊥
-CallTo large l s t commands Busy ops = ops ≡ Claim false ∷ []
+CallTo large l s t commands Busy ops = (ops ≡ Claim false ∷ []) × RanAll machine large l s t commands None ops
 
 -- The call of these commands.
 pub record Called (commands : List Command) (status : Status) (l : Log) (ops : List Op) : Type 0 where

@@ -1,7 +1,6 @@
 -- A root text, read line by line: what each part of it gives, and where its reading stops.
 use Rattle.std.specs.Prelude.{◌≡◌, ℕ, suc, ◌+◌, ◌*◌, ◌/◌, ◌<◌, ◌≤◌, Bool, true, List, [], ◌∷◌, ◌++◌, length, take, Option, Some, None, All, IsTrue}
-use Rattle.std.specs.Ordering.{is_lt, nat_cmp}
-use Rattle.std.specs.Cmp.Lexicographic.{slice_cmp}
+use Rattle.std.specs.Ordering.{is_lt}
 use Rattle.std.specs.List.{flat_map}
 use Rattle.aptly_core.specs.declared.machine_state.Repo.{Repo}
 use Rattle.aptly_core.specs.declared.machine_state.Limit.TheVariants.{Repos}
@@ -10,7 +9,7 @@ use Rattle.aptly_core.specs.declared.catalogue_text.RootFault.TheVariants as fau
 use Rattle.aptly_core.specs.declared.root_reader.Stop.{Stop}
 use Rattle.aptly_core.specs.declared.root_reader.Stop.TheVariants.{After, OutOfMemory}
 use Rattle.aptly_core.specs.Ascending.{IsAscending}
-use Rattle.aptly_core.specs.Root.{repo_lines, body_lines, head_lines, last_lines}
+use Rattle.aptly_core.specs.Root.{repo_lines, body_lines, head_lines}
 use Rattle.aptly_core.specs.State.{IsRepo, name_cmp, repo_cmp, limit_number}
 
 abbrev pub IfAfter : Stop → (ℕ → Type 0) → Type 0

@@ -1,5 +1,5 @@
 -- Which states are valid.
-use Rattle.std.specs.Prelude.{◌≡◌, ◌≤◌, ℕ, ◌-◌, Bool, not, ◌&&◌, ◌==◌, nat_le, List, length, slice_index, Option, IsTrue, IfSome, All, find, codes}
+use Rattle.std.specs.Prelude.{◌≤◌, ℕ, ◌-◌, Bool, not, ◌&&◌, ◌==◌, nat_le, List, length, slice_index, Option, IsTrue, IfSome, All, find, codes}
 use Rattle.std.specs.List.{list_all}
 use Rattle.std.specs.Str.{IsUtf8, bytes_eq}
 use Rattle.std.specs.Ordering.{nat_cmp}

@@ -1,5 +1,5 @@
 -- One step of the machine: what a command comes to in a state.
-use Rattle.std.specs.Prelude.{◌≡◌, ℕ, Bool, not, List, [], Option, Some, None, nat_le, length, codes, unwrap_or, is_some, if◌then◌else◌}
+use Rattle.std.specs.Prelude.{◌≡◌, ℕ, not, List, [], Option, Some, None, nat_le, length, codes, unwrap_or, is_some, if◌then◌else◌}
 use Rattle.ap_text.specs.Names.{is_name}
 use Rattle.aptly_core.specs.declared.machine_state.Kind.TheVariants.{Repo}
 use Rattle.aptly_core.specs.declared.machine_state.Limit.TheVariants.{Repos}

@@ -1,9 +1,9 @@
 //! The root text: a state as a store keeps it.
-ghost use Rattle.std.specs.Prelude.{◌≡◌, ◌++◌, OnOk, IfOk, IfErr, string_bytes, codes, [], unwrap_or, ◌+◌, ◌<◌, ◌^◌};
+ghost use Rattle.std.specs.Prelude.{◌≡◌, ◌++◌, OnOk, IfOk, IfErr, string_bytes, codes, [], unwrap_or, ◌+◌, ◌<◌, ◌^◌, ℕ, List};
 ghost use Rattle.std.specs.List.{flat_map};
 ghost use Rattle.std.specs.Fmt.{decimal};
 ghost use Rattle.aptly_core.specs.Replies.{line};
-ghost use Rattle.aptly_core.specs.Root.{blank_and, repo_lines, head_lines, last_lines, root_lines, root_text as root_of, IsRootFault};
+ghost use Rattle.aptly_core.specs.Root.{blank_and, repo_lines, head_lines, last_lines, root_lines, root_text as root_of, IsFirstBadLine, IsRootFault};
 ghost use Rattle.aptly_core.specs.RootStops.{IfAfter, fault_behind};
 ghost use Rattle.aptly_core.specs.State.{Valid};
 ghost use Rattle.aptly_core.specs.Values.{StateView};
@@ -210,4 +210,6 @@ fn fault_after(stop: Stop, before: usize) -> RootFault
 pub fn laws_of_root_texts()
     // A text is the root text of one valid state at most.
     ensures one { (state : StateView) (other : StateView) → Valid state → Valid other → root_of state ≡ root_of other → state ≡ other }
+    // A text has one first bad line at most.
+    ensures line { (text : List ℕ) (line : ℕ) (other : ℕ) → IsFirstBadLine text line → IsFirstBadLine text other → line ≡ other }
 {}

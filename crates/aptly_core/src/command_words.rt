@@ -1,9 +1,9 @@
 //! The words of a call, and the commands that they spell.
-ghost use Rattle.std.specs.Prelude.{◌≡◌, ◌++◌, ◌∷◌, [], OnOk, OnErr, IfOk, IfErr, MatchResult, Ok, Err, ◌<◌};
+ghost use Rattle.std.specs.Prelude.{◌≡◌, ◌++◌, ◌∷◌, [], OnOk, OnErr, IfOk, IfErr, MatchResult, Ok, Err, ◌<◌, ℕ, List};
 ghost use Rattle.aptly_core.specs.declared.command_words.Command.{Command as CommandOf};
 ghost use Rattle.aptly_core.specs.WordsRead.{group_of, verb_of, flags_of, name_at};
 ghost use Rattle.aptly_core.specs.declared.command_words.WordFault.TheVariants.{OutOfMemory};
-ghost use Rattle.aptly_core.specs.Words.{Commands, IsWordFault, is_dashed as dashed};
+ghost use Rattle.aptly_core.specs.Words.{Commands, IsUsagePlace, IsWordFault, is_dashed as dashed};
 
 use control_stanza::Text;
 use std::alloc::{AllocError, AllocFailed, Global};
@@ -177,3 +177,12 @@ fn read_name(place: usize, words: &[Text]) -> Result<&Text, usize>
         }
     }
 }
+
+/// What holds of all words.
+pub fn laws_of_words()
+    // Words spell one list of commands at most.
+    ensures one { (words : List (List ℕ)) (commands : List CommandOf) (others : List CommandOf) → Commands words commands → Commands words others → commands ≡ others }
+    // They have one usage place at most, and none where they spell a list.
+    ensures place { (words : List (List ℕ)) (place : ℕ) (other : ℕ) → IsUsagePlace words place → IsUsagePlace words other → place ≡ other }
+    ensures apart { (words : List (List ℕ)) (commands : List CommandOf) (place : ℕ) → Commands words commands → IsUsagePlace words place → ⊥ }
+{}

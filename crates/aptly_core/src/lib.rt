@@ -14,6 +14,8 @@ mod root_reader;
 mod root_values;
 mod run;
 mod status;
+#[cfg(test)]
+mod tests;
 mod text_lines;
 
 pub use run::{RunFault, aptly, calls_hand_over, run_one, stored_states_are_equal};

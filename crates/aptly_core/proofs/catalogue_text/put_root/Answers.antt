@@ -1,5 +1,5 @@
 use Rattle.aptly_core.specs.Replies.{line}
-use Rattle.aptly_core.specs.Root.{repo_lines, head_lines, last_lines}
+use Rattle.aptly_core.specs.Root.{repo_lines, last_lines}
 use Rattle.aptly_core.proofs.RootTexts.{joined_parts}
 use Rattle.aptly_core.proofs.catalogue_text.put_root.Goals as goal
 

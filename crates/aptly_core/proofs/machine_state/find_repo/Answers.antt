@@ -1,4 +1,4 @@
-use Rattle.std.proofs.Common.{rules, arith, ap, sym, ◌∙◌, Some}
+use Rattle.std.proofs.Common.{arith, ap, sym, ◌∙◌, Some}
 use Rattle.aptly_core.proofs.RepoLemmas.{found, nowhere, rises_by_name}
 use Rattle.aptly_core.proofs.machine_state.find_repo.Goals as goal
 

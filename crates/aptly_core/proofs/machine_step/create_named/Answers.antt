@@ -1,8 +1,8 @@
-use Rattle.std.proofs.Common.{rules, arith, ◌≡◌, sym, ap, ◌∙◌}
+use Rattle.std.proofs.Common.{rules, arith}
 use Rattle.std.proofs.lemmas.Result.{IfOk-weaker}
 use Rattle.aptly_core.specs.declared.machine_state.Kind.TheVariants as kinds
 use Rattle.aptly_core.specs.declared.machine_state.Limit.TheVariants as limits
-use Rattle.aptly_core.specs.declared.machine_state.Refusal.TheVariants.{BadName, Exists, Limit}
+use Rattle.aptly_core.specs.declared.machine_state.Refusal.TheVariants.{Exists, Limit}
 use Rattle.aptly_core.specs.declared.command_words.Command.TheVariants.{RepoCreate}
 use Rattle.aptly_core.specs.Step.{new_repo}
 use Rattle.aptly_core.proofs.AscendingLemmas.{put_at}

@@ -1,7 +1,6 @@
-use Rattle.std.proofs.Common.{rules, arith, ◌≡◌, sym, ap, ◌∙◌, subst, List, ℕ, []}
+use Rattle.std.proofs.Common.{sym, ap, ◌∙◌, subst}
 use Rattle.aptly_core.specs.State.{Valid}
 use Rattle.aptly_core.specs.Step.{refusal_of, Came}
-use Rattle.aptly_core.specs.Values.{StateView}
 use Rattle.aptly_core.proofs.StepLemmas.{says_some, valid_step}
 use Rattle.aptly_core.proofs.machine_step.laws_of_steps.Goals as goal
 

@@ -1,8 +1,4 @@
-use Rattle.std.proofs.Common.{◌≡◌, ◌++◌, length, All}
-use Rattle.std.specs.List.{flat_map}
-use Rattle.aptly_core.specs.Ascending.{IsAscending}
 use Rattle.aptly_core.specs.Lines.{lines_of}
-use Rattle.aptly_core.specs.Root.{repo_lines}
 use Rattle.aptly_core.specs.RootStops.{ReadsBody}
 use Rattle.aptly_core.proofs.root_reader.read_repos.Given as goal
 
