@@ -1,10 +1,10 @@
 -- The live files are an image; and what is sure.
-use Rattle.std.proofs.Common.{◌≡◌, inl, inr, List, [], ◌∷◌, Some, None, IsSome, refl, sym, ◌∙◌, ap, subst}
+use Rattle.std.proofs.Common.{◌≡◌, inl, inr, ℕ, option_map, ◌++◌, List, [], ◌∷◌, Some, None, IsSome, refl, sym, ◌∙◌, ap, subst}
 use Rattle.ap_host.specs.declared.host.Op.{Op}
 use Rattle.ap_host.specs.declared.host.Op.TheVariants.{Create, Append, Sync, Rename, Remove, Barrier, Say, Claim}
 use Rattle.ap_host.specs.Disk.{Path, Content, Files, with_file, moved, Log, live_of, Disk, step, may_step, after, settled, disk_of, IsImage, Image, IsSure, Images, Durable}
 use Rattle.ap_host.specs.Changes.{SameExcept}
-use Rattle.ap_host.specs.Legal.{LawOfLiveImage, LawOfUntouched, LawOfBarrier}
+use Rattle.ap_host.specs.Legal.{LawOfLiveImage, LawOfUntouched, LawOfBarrier, LawOfAbsent}
 use Rattle.ap_host.proofs.DiskLemmas.{one, two, same_path, with_file-same, with_file-other, disk_of-step, Throughout-end}
 use Rattle.ap_host.proofs.ChangeLemmas.{after_same}
 
@@ -67,3 +67,14 @@ sure_of_images l p all x may = let w = image_at l p x may in sym w.2 ∙ all w.0
 
 pub durable_image : (l : Log) → Durable l → Images l (λ f. (p : Path) → f p ≡ live_of l p)
 durable_image l sure f image p = sure p (f p) (image p)
+
+pub law_of_absent : LawOfAbsent
+law_of_absent log p none = (
+  λ to q. ap (λ (d : Disk). d.live q) (disk_of-step (Rename p to) log) ∙ ap (λ (x : Content). moved (live_of log) p to x q) none,
+  λ bytes q.
+      ap (λ (d : Disk). d.live q) (disk_of-step (Append p bytes) log) ∙ ap (λ (x : Content). with_file (live_of log) p (option_map (λ (c : List ℕ). c ++ bytes) x) q) none
+      ∙ elim (same_path q p) [
+        | one is t ↦ at_path (live_of log) p q None is ∙ sym none ∙ ap (live_of log) (sym is)
+        | two n f ↦ with_file-other (live_of log) p q None n
+      ],
+)

@@ -1,22 +1,23 @@
 // A host in memory. It tells its log, and fails at the calls that it is told to.
-ghost use Rattle.std.specs.Prelude.{◌≡◌, ◌≤◌, ℕ, [], ◌∷◌, ◌++◌, length, not, Some, IsTrue, IsSome, IfOk, OnOk, OnErr, IsErrOf, option_map};
+ghost use Rattle.std.specs.Prelude.{◌≡◌, ◌≤◌, ℕ, [], ◌∷◌, ◌++◌, length, take, not, Some, IsTrue, IsSome, IfOk, OnOk, OnErr, IsErrOf, option_map};
 ghost use Rattle.std.specs.Option.{ForSome};
 ghost use Rattle.ap_host.specs.declared.host.HostErr.TheVariants.{Failed, OutOfMemory};
 ghost use Rattle.ap_host.specs.declared.host.Op.TheVariants.{Create, Append, Sync, Rename, Remove, Barrier, Say, Claim};
-ghost use Rattle.ap_host.specs.Disk.{live_step, live_of};
+ghost use Rattle.ap_host.specs.Disk.{live_of};
 ghost use Rattle.ap_host.specs.Calls.{Added, Does, HasCause, Reads, Rose};
 ghost use Rattle.ap_host.specs.Names.{NamesOf};
 ghost use Rattle.ap_host.specs.Table.{files_of, IsOnce, SameFiles};
 ghost use Rattle.ap_host.specs.Ordinals.{is_due, FailsInTurn};
+ghost use Rattle.ap_host.specs.Images.{IsChoice};
 ghost use Rattle.ap_host.specs.Mem.{MemState, MemDoes, log_of, stood};
 
 use crate::bytes::Bytes;
 use crate::host::{Host, HostErr, Op};
+use crate::images::image_of;
 use crate::names::names_below;
 use crate::ordinals::Ordinals;
-use crate::table::{
-    copy_entries, empty_file, extend_file, length_of, read_file, remove_file, rename_file,
-};
+use crate::replay::apply;
+use crate::table::{copy_entries, length_of, read_file};
 use ap_text::SafePath;
 use std::alloc::{AllocError, Global};
 use std::marker::Model;
@@ -33,30 +34,13 @@ pub struct MemHost {
 }
 
 impl Model for MemHost {
-    ghost use Rattle.ap_host.specs.Mem.{MemState, IsTableOf};
+    ghost use Rattle.ap_host.specs.Mem.{MemState, IsMem};
 
     ghost Value = { MemState };
 
     ghost view = { λ m. record { base = m.base.items; ops = m.ops.items; taken = m.taken; calls = m.calls } };
 
-    ghost invariant = { λ m. IsTableOf m.base.items m.table.items m.ops.items };
-}
-
-/// What an operation does to the files.
-fn apply(alloc: Global, table: &mut Vec<(SafePath, Bytes)>, op: &Op) -> Result<(), AllocError>
-    requires { IsOnce table.old.items }
-    ensures once { IsOnce table.new.items }
-    ensures ok { OnOk result (SameFiles (files_of table.new.items) (live_step (files_of table.old.items) op.now)) }
-    ensures err { OnErr result (table.new.items ≡ table.old.items) }
-{
-    match op {
-        Op::Create(path) => empty_file(alloc, table, path.copy(alloc)?)?,
-        Op::Append(path, bytes) => extend_file(table, path, bytes.as_slice())?,
-        Op::Rename(from, to) => rename_file(table, from, to.copy(alloc)?),
-        Op::Remove(path) => remove_file(table, path),
-        Op::Sync(_) | Op::Barrier | Op::Say(_) | Op::Claim(_) => {}
-    }
-    Ok(())
+    ghost invariant = { λ m. IsMem m.base.items m.table.items m.ops.items };
 }
 
 impl MemHost {
@@ -87,6 +71,18 @@ impl MemHost {
         ensures { result.now ≡ self.now.ops }
     {
         self.ops.as_slice()
+    }
+
+    /// The image that a choice takes of the first `upto` operations: files that a stop after them may leave, in the order
+    /// of their paths' bytes. Choice 0 takes the live value at each path. Choice 1 takes the value at the last barrier, or
+    /// the one at first where there was no barrier, where a stop may leave it, and nothing elsewhere. A choice k from 2 on
+    /// takes choice 0's value at the i-th path where bit `i % 16` of k is set, and choice 1's elsewhere; the paths, counted
+    /// from 0 by bytes, are those that the first files have or one of these operations is on.
+    pub fn image(&self, upto: usize, choice: u64) -> Result<Vec<(SafePath, Bytes)>, AllocError>
+        requires { upto ≤ length self.now.ops }
+        ensures { IfOk result (λ image. IsChoice (record { base = files_of self.now.base; ops = take upto self.now.ops }) choice image.items) }
+    {
+        image_of(self.alloc, &self.base, &self.ops[..upto], choice)
     }
 
     /// Counts a call, and says whether it is to fail.

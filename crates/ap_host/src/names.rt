@@ -1,10 +1,13 @@
 // The names of the files below a folder, in order.
-ghost use Rattle.std.specs.Prelude.{◌≡◌, ◌⊎◌, ◌↔◌, ◌≤◌, ◌<◌, ℕ, List, length, take, drop, slice_get, IfOk, OnOk, IsTrue, IsFalse, Some};
+ghost use Rattle.std.specs.Prelude.{◌≡◌, ◌⊎◌, ◌↔◌, ◌≤◌, ◌<◌, ℕ, List, length, take, drop, slice_get, IfOk, OnOk, IsTrue, IsFalse, IsSome, Some};
 ghost use Rattle.std.specs.List.{AllByRecursion};
 ghost use Rattle.ap_host.specs.Table.{files_of};
+ghost use Rattle.ap_host.specs.Phases.{Touches};
+ghost use Rattle.ap_host.specs.Images.{AreNamed};
 ghost use Rattle.ap_host.specs.Names.{Before, IsAscending, IsOneOf, NamesOf};
 
 use crate::bytes::Bytes;
+use crate::host::Op;
 use ap_text::SafePath;
 use std::alloc::{AllocError, Global};
 use std::cmp::Ordering;
@@ -60,4 +63,59 @@ pub fn names_below(
         }
     }
     Ok(names)
+}
+
+fn insert_copy(alloc: Global, names: &mut Vec<SafePath>, path: &SafePath) -> Result<(), AllocError>
+    requires { IsAscending names.old.items }
+    ensures ascending { OnOk result (IsAscending names.new.items) }
+    ensures each { OnOk result ((q : List ℕ) → IsOneOf q names.new.items ↔ ((q ≡ path.now) ⊎ IsOneOf q names.old.items)) }
+{
+    let path = path.copy(alloc)?;
+    insert_name(names, path)
+}
+
+/// The names of all files.
+fn names_of(alloc: Global, entries: &[(SafePath, Bytes)]) -> Result<Vec<SafePath>, AllocError>
+    ensures ascending { IfOk result (λ names. IsAscending names.items) }
+    ensures each { IfOk result (λ names. (q : List ℕ) → IsOneOf q names.items ↔ IsSome (files_of entries.now q)) }
+{
+    let mut names = Vec::new(alloc);
+    for e in entries {
+        insert_copy(alloc, &mut names, &e.0)?;
+    }
+    Ok(names)
+}
+
+/// Puts the paths that an operation is on among the names.
+fn insert_touched(alloc: Global, names: &mut Vec<SafePath>, op: &Op) -> Result<(), AllocError>
+    requires { IsAscending names.old.items }
+    ensures ascending { OnOk result (IsAscending names.new.items) }
+    ensures each { OnOk result ((q : List ℕ) → IsOneOf q names.new.items ↔ (Touches q op.now ⊎ IsOneOf q names.old.items)) }
+{
+    match op {
+        Op::Create(path) => insert_copy(alloc, names, path),
+        Op::Append(path, _) => insert_copy(alloc, names, path),
+        Op::Sync(path) => insert_copy(alloc, names, path),
+        Op::Remove(path) => insert_copy(alloc, names, path),
+        Op::Rename(from, to) => {
+            insert_copy(alloc, names, from)?;
+            insert_copy(alloc, names, to)
+        }
+        Op::Barrier | Op::Say(_) | Op::Claim(_) => Ok(()),
+    }
+}
+
+/// The paths that the files have or an operation is on, in order.
+pub fn named_paths(
+    alloc: Global,
+    base: &[(SafePath, Bytes)],
+    ops: &[Op],
+) -> Result<Vec<SafePath>, AllocError>
+    ensures { IfOk result (λ paths. AreNamed (record { base = files_of base.now; ops = ops.now }) paths.items) }
+{
+    let mut paths = names_of(alloc, base)?;
+    for op in ops {
+        insert_touched(alloc, &mut paths, op)?;
+    }
+    Ok(paths)
 }

@@ -1,7 +1,9 @@
 // A table of files, each path once.
-ghost use Rattle.std.specs.Prelude.{◌≡◌, ◌≢◌, ◌<◌, ◌≤◌, IfOk, ℕ, List, [], ◌∷◌, ◌++◌, length, Some, None, IsOk, IfSome, IfNone, OnOk, OnErr, IsSome, option_map, option_copied, slice_get, vec_len};
+ghost use Rattle.std.specs.Prelude.{◌≡◌, ◌≢◌, ◌<◌, ◌≤◌, IfOk, ℕ, List, [], ◌∷◌, ◌++◌, length, Some, None, IsOk, IfSome, IfNone, OnOk, OnErr, IsSome, option_map, slice_get, vec_len};
+ghost use Rattle.std.specs.Option.{option_copied};
 ghost use Rattle.ap_host.specs.Disk.{with_file, moved};
 ghost use Rattle.ap_host.specs.Calls.{Reads};
+ghost use Rattle.ap_host.specs.Drawing.{entry_of};
 ghost use Rattle.ap_host.specs.Table.{files_of, IsOnce, SameFiles};
 
 use crate::bytes::Bytes;
@@ -18,6 +20,37 @@ pub fn place_of(entries: &[(SafePath, Bytes)], path: &SafePath) -> Option<usize>
         }
     }
     None
+}
+
+/// A file's bytes.
+pub fn file_of<'a>(entries: &'a [(SafePath, Bytes)], path: &SafePath) -> Option<&'a Bytes>
+    requires { IsOnce entries.now }
+    ensures { option_copied result ≡ files_of entries.now path.now }
+{
+    match place_of(entries, path) {
+        Some(i) => {
+            let entry = &entries[i];
+            Some(&entry.1)
+        }
+        None => None,
+    }
+}
+
+/// Adds a copy of the file at this path of another table, if it has one.
+pub fn add_file(
+    alloc: Global,
+    entries: &mut Vec<(SafePath, Bytes)>,
+    from: &[(SafePath, Bytes)],
+    path: &SafePath,
+) -> Result<(), AllocError>
+    requires { IsOnce from.now }
+    ensures { OnOk result (entries.new.items ≡ entries.old.items ++ entry_of path.now (files_of from.now path.now)) }
+{
+    match file_of(from, path) {
+        Some(bytes) => entries.push((path.copy(alloc)?, bytes.copy(alloc)?))?,
+        None => {}
+    }
+    Ok(())
 }
 
 /// The file, emptied or made.

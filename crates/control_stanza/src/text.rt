@@ -1,7 +1,8 @@
 //! Owned text.
-ghost use Rattle.std.specs.Prelude.{◌≡◌, ◌↔◌, IsTrue, IfOk, string_bytes};
+ghost use Rattle.std.specs.Prelude.{◌≡◌, ◌↔◌, ◌++◌, ◌∷◌, IsTrue, IfOk, OnOk, string_bytes};
 ghost use Rattle.std.specs.Ordering.{nat_cmp};
 ghost use Rattle.std.specs.Cmp.Lexicographic.{slice_cmp};
+ghost use Rattle.std.specs.Str.{IsUtf8};
 
 use std::alloc::{AllocError, Global};
 use std::cmp::Ordering;
@@ -24,7 +25,8 @@ impl Model for Text {
 impl Text {
     /// Copies a text. Fails only for want of memory.
     pub fn new(alloc: Global, text: &str) -> Result<Text, AllocError>
-        ensures { IfOk result (λ made. made ≡ text.now) }
+        ensures same { IfOk result (λ made. made ≡ text.now) }
+        ensures utf8 { IfOk result IsUtf8 }
     {
         Ok(Text {
             text: String::from_str(alloc, text)?,
@@ -57,5 +59,13 @@ impl Text {
         ensures { result ≡ slice_cmp nat_cmp self.now other.now }
     {
         self.as_str().cmp(other.as_str())
+    }
+
+    /// Adds a line end and a line.
+    pub(crate) fn push_line(&mut self, line: &str) -> Result<(), AllocError>
+        ensures { OnOk result (self.new ≡ self.old ++ 10 ∷ line.now) }
+    {
+        self.text.push('\n')?;
+        self.text.push_str(line)
     }
 }
