@@ -83,10 +83,13 @@ claimed_ran cs status state l a b valid is comes w y = record {
   work = EachOp-append IsWork a b (settling_work a w.settles.only) y.work;
   damaged = λ d e. absurd (subst IsRunStatus e is);
   none = λ none. absurd (none state w.loads);
-  refused = λ q e. ((
-    (y.refused valid q e).0,
-    said-append a b ∙ ap (λ (x : List ℕ). x ++ said b) (settling_quiet a w.settles.only) ∙ (y.refused valid q e).1,
-  ), λ s sound. subst (λ (x : StateView). EndsWith x cs status) (stored_once (live_of l) state s w.loads sound) (comes valid));
+  refused = λ q e. (
+    (
+      (y.refused valid q e).0,
+      said-append a b ∙ ap (λ (x : List ℕ). x ++ said b) (settling_quiet a w.settles.only) ∙ (y.refused valid q e).1,
+    ),
+    λ s sound. subst (λ (x : StateView). EndsWith x cs status) (stored_once (live_of l) state s w.loads sound) (comes valid),
+  );
   went = λ s durable stands. inr (record {
     opening = a;
     rest = b;
@@ -177,7 +180,7 @@ called_busy cs l ops is = subst (λ (x : List Op). Called cs Busy l x) (sym is) 
   damaged = λ d e. absurd (cc);
   none = λ none got. absurd (got_not got.0 (sym got.1));
   refused = λ q e. absurd (cc);
-  run = λ s t entry. (None, refl, refl, broke_opening machine lawful None l s t cs (Claim false ∷ []) (opened_claimed machine l s t entry false (record { kinds = (tt, tt); once = tt }) (λ no. no)));
+  run = λ s t entry. (None, refl, (refl, broke_opening machine lawful None l s t cs (Claim false ∷ []) (opened_claimed machine l s t entry false (record { kinds = (tt, tt); once = tt }) (λ no. no))));
 })
 
 -- a call that broke off at its claim or before

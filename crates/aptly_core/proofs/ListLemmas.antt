@@ -83,8 +83,8 @@ module _ (s0 : StateView) (all : List Command) (s : StateView) (i : ℕ) (c : Co
       let step = comes before.0 in (
         step.0,
         λ os last runs ends.
-        let o : Outcome StateView Refusal = record { reply = step.1; refusal = None; state = next } in
-        before.1 (o ∷ os) last (subst (λ (cs : List Command). Runs machine None s cs (o ∷ os)) (sym cut) (step.2, runs)) (subst (λ (cs : List Command). EndsAs cs (o ∷ os) last) (sym cut) ends),
+            let o : Outcome StateView Refusal = record { reply = step.1; refusal = None; state = next } in
+            before.1 (o ∷ os) last (subst (λ (cs : List Command). Runs machine None s cs (o ∷ os)) (sym cut) (step.2, runs)) (subst (λ (cs : List Command). EndsAs cs (o ∷ os) last) (sym cut) ends),
       )
 
   pub comes_end : (end : Status) → IsTurnEnd end → ComesFrom s0 all s i → (Valid s → TurnComes s c (Err end)) → Valid s0 → EndsWith s0 all end
@@ -150,7 +150,9 @@ runs_all s0 all s i over start a so_far = record {
   ran = λ rest.
       let before = so_far.ran rest in
       let none : List Command = [] in
-      let nothing = ran_nothing machine lawful None (extended a start) s none (Some (s, None)) before.0 (refl, refl, refl) in
-      (s, subst (λ (x : List Op). Ran machine None start s0 all (Some (s, None)) x) (append-nil a)
-          (before.1 (Some (s, None)) [] (subst (λ (cs : List Command). Ran machine None (extended a start) s cs (Some (s, None)) []) (sym (drop_of_length-le all over)) nothing)));
+      let nothing = ran_nothing machine lawful None (extended a start) s none (Some (s, None)) before.0 (refl, refl, refl) in (
+        s,
+        subst (λ (x : List Op). Ran machine None start s0 all (Some (s, None)) x) (append-nil a)
+            (before.1 (Some (s, None)) [] (subst (λ (cs : List Command). Ran machine None (extended a start) s cs (Some (s, None)) []) (sym (drop_of_length-le all over)) nothing)),
+      );
 }

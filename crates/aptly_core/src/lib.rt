@@ -8,11 +8,13 @@ pub mod command_words;
 pub mod machine_state;
 pub mod machine_step;
 mod naming;
-pub mod reading;
+mod reading;
 pub mod reply_text;
 mod root_reader;
 mod root_values;
 mod run;
+#[cfg(test)]
+mod run_tests;
 mod status;
 #[cfg(test)]
 mod tests;

@@ -10,11 +10,7 @@ use ap_text::SafePath;
 use std::alloc::Global;
 
 /// Reads what comes next of a file, into the bytes before it, and says how many bytes that is.
-fn read_more<H: Host>(
-    host: &mut H,
-    path: &SafePath,
-    bytes: &mut Bytes,
-) -> Result<usize, HostErr>
+fn read_more<H: Host>(host: &mut H, path: &SafePath, bytes: &mut Bytes) -> Result<usize, HostErr>
     ensures grown { IfOk result (λ n. length bytes.new ≡ length bytes.old + n) }
     ensures told { IfOk result (λ n. ForSome (H.log host.old) (λ l. IsReadSoFar (live_of l path.now) bytes.old →
         IsReadSoFar (live_of l path.now) bytes.new × (n ≡ 0 → length (unwrap_or (live_of l path.now) []) ≤ length bytes.old))) }

@@ -202,11 +202,7 @@ fn settled<H: Host>(host: &mut H, stage: &mut Stage, state: State) -> Result<Sta
 }
 
 /// Loads the store, and settles it.
-fn open_claimed<H: Host>(
-    alloc: Global,
-    host: &mut H,
-    stage: &mut Stage,
-) -> Result<State, LoadFault>
+fn open_claimed<H: Host>(alloc: Global, host: &mut H, stage: &mut Stage) -> Result<State, LoadFault>
     ensures valid { IfOk result Valid }
     ensures log { GoesOn (H.log host.old) (H.log host.new) (OpensTo result) }
     ensures cause { CauseOf LoadFault.HostFault (H.faults host.old) (H.faults host.new) result }

@@ -46,7 +46,7 @@ returns-in_err-place-clause-log g c =
     let bytes = c.as_bytes.ensures.value ∙ c.as_str.ensures ∙ c.in_ok-text.ensures in
     let laid = subst (λ (x : List ℕ). GoesOn (g.H.Host.log c.args.host.now) (g.H.Host.log c.lay.new.host) (Lays (stage_path n) x (Ok name))) bytes c.in_ok-name.ensures.log in
     let placed = subst (λ (p : Path). GoesOn (g.H.Host.log c.lay.new.host) (g.H.Host.log c.place.new.host) (Places p root r)) c.in_ok-name.ensures.name
-        (subst (λ (q : Path). GoesOn (g.H.Host.log c.lay.new.host) (g.H.Host.log c.place.new.host) (Places name q r)) c.in_ok-root.ensures c.place.ensures.log) in
+    (subst (λ (q : Path). GoesOn (g.H.Host.log c.lay.new.host) (g.H.Host.log c.place.new.host) (Places name q r)) c.in_ok-root.ensures c.place.ensures.log) in
     GoesOn-then _ _ _ _ _ _ laid placed (λ l a b lays places. commits_err s t _ e.0 l (a ++ b) e.1
     (EachOp-append IsCommitting a b (lays_committing n a lays.only) (rename_committing n r b places.did))
     (sets_then a b (lays_target (stage_path n) a lays.only) (rename_sets (stage_path n) r b places.did))
@@ -64,7 +64,7 @@ returns-clause-log g c =
     let bytes = c.as_bytes.ensures.value ∙ c.as_str.ensures ∙ c.in_ok-text.ensures in
     let laid = subst (λ (x : List ℕ). GoesOn (g.H.Host.log c.args.host.now) (g.H.Host.log c.lay.new.host) (Lays (stage_path n) x (Ok name))) bytes c.in_ok-name.ensures.log in
     let placed = subst (λ (p : Path). GoesOn (g.H.Host.log c.lay.new.host) (g.H.Host.log c.place.new.host) (Places p root ok)) c.in_ok-name.ensures.name
-        (subst (λ (q : Path). GoesOn (g.H.Host.log c.lay.new.host) (g.H.Host.log c.place.new.host) (Places name q ok)) c.in_ok-root.ensures c.in_ok-place.ensures.log) in
+    (subst (λ (q : Path). GoesOn (g.H.Host.log c.lay.new.host) (g.H.Host.log c.place.new.host) (Places name q ok)) c.in_ok-root.ensures c.in_ok-place.ensures.log) in
     let set = GoesOn-then _ _ _ _ _ (Set s t) laid placed (λ l a b lays places. record {
       only = EachOp-append IsCommitting a b (lays_committing n a lays.only) (rename_committing n ok b places.did);
       once = sets_then a b (lays_target (stage_path n) a lays.only) (rename_sets (stage_path n) ok b places.did);
