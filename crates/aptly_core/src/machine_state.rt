@@ -172,7 +172,7 @@ fn find_repo<'a>(repos: &'a [Repo], name: &Name) -> Option<&'a Repo>
     }
 }
 
-pub fn copy_repos(alloc: Global, repos: &[Repo]) -> Result<Vec<Repo>, AllocError>
+pub(crate) fn copy_repos(alloc: Global, repos: &[Repo]) -> Result<Vec<Repo>, AllocError>
     ensures { IfOk result (λ copies. copies.items ≡ repos.now) }
 {
     let mut copies = Vec::new(alloc);
@@ -183,7 +183,7 @@ pub fn copy_repos(alloc: Global, repos: &[Repo]) -> Result<Vec<Repo>, AllocError
 }
 
 /// Where the repository of that name stands, or where a new one would go.
-pub fn place_of_repo(repos: &[Repo], name: &Name) -> Result<usize, usize>
+pub(crate) fn place_of_repo(repos: &[Repo], name: &Name) -> Result<usize, usize>
     ensures found { IsBinarySearchResult (λ repo. name_cmp repo name.now) repos.now result }
     ensures bound { IsSearchInRange result (length repos.now) }
 {
