@@ -1,4 +1,4 @@
-use Rattle.std.proofs.Common.{◌≡◌, List, refl, sym, ap, subst}
+use Rattle.std.proofs.Common.{List, refl, subst}
 use Rattle.ap_host.proofs.ChangeLemmas.{GoesOn-map, GoesOn-none}
 use Rattle.aptly_core.specs.Calls.{Called}
 use Rattle.aptly_core.specs.Words.{IsWordFault}
