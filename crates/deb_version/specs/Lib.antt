@@ -1,5 +1,4 @@
 pub mod Cuts
 pub mod VersionText
 pub mod VersionOrder
-pub mod OrderLaws
 pub mod Spelling

@@ -1,6 +1,6 @@
 use Rattle.std.proofs.Common.{refl}
 use Rattle.deb_version.specs.Cuts.{is_digit, rank, part_cmp}
-use Rattle.deb_version.specs.VersionText.{epoch_of, start_of, upstream_in, revision_in, is_epoch, is_revision_byte, is_upstream_byte, bad_in_upstream, bad_in_revision, fault_of, is_version}
+use Rattle.deb_version.specs.VersionText.{epoch_of, start_of, upstream_in, revision_in, is_revision_byte, is_upstream_byte, bad_in_upstream, bad_in_revision, fault_of, is_version}
 use Rattle.deb_version.specs.VersionOrder.{version_cmp}
 use Rattle.deb_version.proofs.laws.equal_versions_may_differ_as_texts.Goals as goal
 

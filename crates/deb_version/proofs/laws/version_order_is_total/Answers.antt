@@ -1,4 +1,4 @@
-use Rattle.deb_version.specs.OrderLaws.{version_total}
+use Rattle.deb_version.proofs.OrderLaws.{version_total}
 use Rattle.deb_version.proofs.laws.version_order_is_total.Goals as goal
 
 pub returns-clause-reversed : goal.returns-clause-reversed
