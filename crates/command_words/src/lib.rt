@@ -1,0 +1,10 @@
+//! The words of a command line, read as commands of the repository manager.
+#![tactic(auto)]
+
+mod command;
+mod flags;
+mod table;
+
+pub use command::{Command, Follow, Origin};
+pub use flags::{is_flag, flags_len, parts};
+pub use table::{Arguments, Flag, Form, Kind, Row, MirrorVerb, RepoVerb, SnapshotVerb, PublishVerb, OtherVerb, find_row, is_group};
