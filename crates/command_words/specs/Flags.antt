@@ -1,5 +1,5 @@
 -- Flags: the words after the verb that begin with a dash, and what they say.
-use Rattle.std.specs.Prelude.{◌≡◌, ℕ, ◌+◌, ◌==◌, nat_lt, nat_le, Bool, true, false, ◌&&◌, ◌||◌, not, if◌then◌else◌, List, [], ◌∷◌, ◌++◌, Option, Some, None, option_map, length, drop, slice_index, codes}
+use Rattle.std.specs.Prelude.{◌≡◌, ℕ, ◌+◌, ◌<◌, ◌≤◌, take, ◌==◌, nat_lt, nat_le, Bool, true, false, ◌&&◌, ◌||◌, not, if◌then◌else◌, List, [], ◌∷◌, ◌++◌, Option, Some, None, option_map, length, drop, slice_index, codes}
 use Rattle.std.specs.List.{find, list_any, list_all, position_or_len, before_first, after_first, slice_split}
 use Rattle.std.specs.Set.{distinct_count}
 use Rattle.std.specs.Str.{bytes_eq}
@@ -106,3 +106,7 @@ text_of name flags = joined (written name flags)
 
 abbrev pub texts_of : Word → Words → Option Words
 texts_of name flags = option_map parts (text_of name flags)
+
+-- the longest front of the flags in which each can stand after those before it
+abbrev pub IsLongestStanding : List FlagRule → Words → ℕ → Type 0
+IsLongestStanding rules flags n = (n ≤ length flags) × (flags_stand rules (take n flags) ≡ true) × (n < length flags → flags_stand rules (take (n + 1) flags) ≡ false)

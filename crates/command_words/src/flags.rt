@@ -5,7 +5,7 @@ ghost use Rattle.std.specs.Option.{option_copied};
 ghost use Rattle.std.specs.Set.{distinct_count};
 ghost use Rattle.std.specs.Str.{bytes_eq};
 ghost use Rattle.command_words.specs.Table.{rule};
-ghost use Rattle.command_words.specs.Flags.{is_flag, strip_dash, undashed, flag_name, flag_value, value_in, parts, is_text_list, has_form, form_of, has_known_form, has_name, switch_value, sets, excludes, flag_stands, flags_stand, switch_of, text_of, texts_of};
+ghost use Rattle.command_words.specs.Flags.{is_flag, strip_dash, undashed, flag_name, flag_value, value_in, parts, is_text_list, has_form, form_of, has_known_form, has_name, switch_value, sets, excludes, flag_stands, IsLongestStanding, switch_of, text_of, texts_of};
 
 use control_stanza::Text;
 use std::alloc::{AllocError, Global};
@@ -191,4 +191,61 @@ fn flag_stands(alloc: Global, row: &Row, before: &[Text], word: &str) -> Result<
 {
     let known = is_known(alloc, row, word)?;
     Ok(known && !is_repeated(before, flag_name(word)) && !excludes(before, word))
+}
+
+/// How many flags from the front on can stand, each after those before it.
+pub fn standing_flags(alloc: Global, row: &Row, flags: &[Text]) -> Result<usize, AllocError>
+    ensures { IfOk result (λ n. IsLongestStanding (rule row.now).flags flags.now n) }
+{
+    for (i, word) in flags.iter().enumerate() {
+        if !flag_stands(alloc, row, &flags[..i], word.as_str())? {
+            return Ok(i);
+        }
+    }
+    Ok(flags.len())
+}
+
+fn find_written<'a>(flags: &'a [Text], name: &str) -> Option<&'a Text>
+    ensures { option_copied result ≡ find (has_name name.now) flags.now }
+{
+    flags.iter().find(|flag| has_name(flag.as_str(), name))
+}
+
+/// What the switch of this name says, where it is written.
+pub fn switch_of(flags: &[Text], name: &str) -> Option<bool>
+    ensures { result ≡ switch_of name.now flags.now }
+{
+    match find_written(flags, name) {
+        Some(flag) => Some(switch_value(flag_value(flag.as_str()))),
+        None => None,
+    }
+}
+
+fn value_of<'a>(flags: &'a [Text], name: &str) -> Option<&'a str>
+    ensures { option_copied result ≡ text_of name.now flags.now }
+{
+    match find_written(flags, name) {
+        Some(flag) => flag_value(flag.as_str()),
+        None => None,
+    }
+}
+
+/// The text of the flag of this name, where it is written.
+pub fn text_of(alloc: Global, flags: &[Text], name: &str) -> Result<Option<Text>, AllocError>
+    ensures { IfOk result (λ text. text ≡ text_of name.now flags.now) }
+{
+    match value_of(flags, name) {
+        Some(value) => Ok(Some(Text::new(alloc, value)?)),
+        None => Ok(None),
+    }
+}
+
+/// The texts of the flag of this name, where it is written.
+pub fn texts_of(alloc: Global, flags: &[Text], name: &str) -> Result<Option<Vec<Text>>, AllocError>
+    ensures { IfOk result (λ texts. option_map (λ v. v.items) texts ≡ texts_of name.now flags.now) }
+{
+    match value_of(flags, name) {
+        Some(value) => Ok(Some(parts(alloc, value)?)),
+        None => Ok(None),
+    }
 }

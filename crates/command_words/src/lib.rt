@@ -6,5 +6,5 @@ mod flags;
 mod table;
 
 pub use command::{Command, Follow, Origin};
-pub use flags::{is_flag, flags_len, parts};
+pub use flags::{is_flag, flags_len, standing_flags, switch_of, text_of, texts_of};
 pub use table::{Arguments, Flag, Form, Kind, Row, MirrorVerb, RepoVerb, SnapshotVerb, PublishVerb, OtherVerb, find_row, is_group};
