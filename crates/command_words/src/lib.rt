@@ -1,10 +1,12 @@
 //! The words of a command line, read as commands of the repository manager.
 #![tactic(auto)]
 
+mod arguments;
 mod command;
 mod flags;
 mod table;
 
+pub use arguments::arguments_fault;
 pub use command::{Command, Follow, Origin};
 pub use flags::{is_flag, flags_len, standing_flags, switch_of, text_of, texts_of};
 pub use table::{Arguments, Flag, Form, Kind, Row, MirrorVerb, RepoVerb, SnapshotVerb, PublishVerb, OtherVerb, find_row, is_group};
