@@ -2,3 +2,4 @@ pub mod Rows
 pub mod Dashes
 pub mod Different
 pub mod Standing
+pub mod Fronts

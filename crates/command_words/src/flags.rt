@@ -23,7 +23,8 @@ pub fn is_flag(word: &str) -> bool
 
 /// How many flags the words begin with.
 pub fn flags_len(words: &[Text]) -> usize
-    ensures { result ≡ prefix_len is_flag words.now }
+    ensures count { result ≡ prefix_len is_flag words.now }
+    ensures bound { result ≤ length words.now }
 {
     words
         .iter()

@@ -5,10 +5,12 @@ mod arguments;
 mod build;
 mod command;
 mod flags;
+mod read;
 mod table;
 
 pub use arguments::arguments_fault;
 pub use build::{command_of, components_len};
 pub use command::{Command, Follow, Origin};
 pub use flags::{is_flag, flags_len, standing_flags, switch_of, text_of, texts_of};
+pub use read::row_fault;
 pub use table::{Arguments, Flag, Form, Kind, Row, MirrorVerb, RepoVerb, SnapshotVerb, PublishVerb, OtherVerb, find_row, is_group};
