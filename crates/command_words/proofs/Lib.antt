@@ -3,3 +3,4 @@ pub mod Dashes
 pub mod Different
 pub mod Standing
 pub mod Fronts
+pub mod Lifted

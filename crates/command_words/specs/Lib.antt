@@ -3,3 +3,4 @@ pub mod Table
 pub mod Flags
 pub mod Arguments
 pub mod Spelled
+pub mod Fault

@@ -138,3 +138,13 @@ spelled (group ∷ verb ∷ words) = spelled_by (find (has_key group verb) table
 
 abbrev pub is_command : Words → Bool
 is_command words = is_some (spelled words)
+
+abbrev pub begun_by : Option RowRule → Words → Bool
+begun_by None words = false
+begun_by (Some row) words = row_begins row words
+
+-- whether the words can be the first of a command
+abbrev pub begins : Words → Bool
+begins [] = true
+begins (group ∷ []) = list_any (λ r. bytes_eq r.group group) table
+begins (group ∷ verb ∷ words) = begun_by (find (has_key group verb) table) words

@@ -4,6 +4,7 @@
 mod arguments;
 mod build;
 mod command;
+mod fault;
 mod flags;
 mod read;
 mod table;
@@ -12,5 +13,6 @@ pub use arguments::arguments_fault;
 pub use build::{command_of, components_len};
 pub use command::{Command, Follow, Origin};
 pub use flags::{is_flag, flags_len, standing_flags, switch_of, text_of, texts_of};
-pub use read::row_fault;
+pub use fault::WordFault;
+pub use read::read_command;
 pub use table::{Arguments, Flag, Form, Kind, Row, MirrorVerb, RepoVerb, SnapshotVerb, PublishVerb, OtherVerb, find_row, is_group};

@@ -1,8 +1,12 @@
 //! One command, read from its words.
-ghost use Rattle.std.specs.Prelude.{◌≡◌, ◌+◌, ◌<◌, ◌≤◌, Some, IfOk, IfErr, length, is_some};
+ghost use Rattle.std.specs.Prelude.{◌≡◌, ◌+◌, ◌<◌, ◌≤◌, Some, IfOk, IfErr, length, is_some, if◌then◌else◌};
 ghost use Rattle.command_words.specs.Arguments.{Judges};
-ghost use Rattle.command_words.specs.Spelled.{flags_of, arguments_of, mark_len, after_flags, row_begins, row_ends};
-ghost use Rattle.command_words.specs.Table.{rule};
+ghost use Rattle.command_words.specs.Spelled.{flags_of, arguments_of, mark_len, after_flags, row_begins, row_ends, row_spells, spelled};
+ghost use Rattle.command_words.specs.Table.{rule, table};
+ghost use Rattle.command_words.specs.Fault.{IsAt, IsRowFault, IsCommandFault};
+ghost use Rattle.command_words.specs.Plain.{plain};
+ghost use Rattle.std.specs.List.{list_any};
+ghost use Rattle.std.specs.Str.{bytes_eq};
 
 use control_stanza::Text;
 use std::alloc::{AllocError, Global};
@@ -10,8 +14,9 @@ use std::alloc::{AllocError, Global};
 use crate::arguments::arguments_fault;
 use crate::build::{command_of, components_len};
 use crate::command::Command;
+use crate::fault::WordFault;
 use crate::flags::{flags_len, standing_flags};
-use crate::table::Row;
+use crate::table::{Row, find_row, is_group};
 
 /// How many of the words are the mark `--` behind the flags.
 fn mark_len(words: &[Text]) -> usize
@@ -54,5 +59,49 @@ pub fn row_fault(alloc: Global, row: &Row, words: &[Text]) -> Result<Option<usiz
     match arguments_fault(row.arguments, components, arguments) {
         Some(place) => Ok(Some(words.len() - arguments.len() + place)),
         None => Ok(None),
+    }
+}
+
+/// The command of this row that the words after its verb spell.
+fn read_row(alloc: Global, row: &Row, words: &[Text]) -> Result<Command, WordFault>
+    ensures read { IfOk result (λ command. row_spells (rule row.now) words.now ≡ Some (plain command)) }
+    ensures fault { IfErr result (IsAt (IsRowFault (rule row.now) words.now)) }
+{
+    match row_fault(alloc, row, words)? {
+        Some(place) => Err(WordFault::At {
+            place: place as u64 + 2,
+        }),
+        None => Ok(command_of(
+            alloc,
+            row.kind,
+            flags_of(words),
+            arguments_of(words),
+        )?),
+    }
+}
+
+/// The place of a first word that is no group, or of the word after it.
+fn group_place(group: &str) -> u64
+    ensures { result ≡ (if list_any (λ r. bytes_eq r.group group.now) table then 1 else 0) }
+{
+    if is_group(group) { 1 } else { 0 }
+}
+
+/// The command that the words spell.
+pub fn read_command(alloc: Global, words: &[Text]) -> Result<Command, WordFault>
+    ensures read { IfOk result (λ command. spelled words.now ≡ Some (plain command)) }
+    ensures fault { IfErr result (IsAt (IsCommandFault words.now)) }
+{
+    match words {
+        [] => Err(WordFault::At { place: 0 }),
+        [group] => Err(WordFault::At {
+            place: group_place(group.as_str()),
+        }),
+        [group, verb, others @ ..] => match find_row(group.as_str(), verb.as_str()) {
+            Some(row) => read_row(alloc, row, others),
+            None => Err(WordFault::At {
+                place: group_place(group.as_str()),
+            }),
+        },
     }
 }
