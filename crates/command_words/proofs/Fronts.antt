@@ -164,3 +164,10 @@ arguments_fault_at row ws words p x stand fault =
 pub row_ends_at : (row : RowRule) (ws : Words) → arguments_end row.arguments (components_len (flags_of ws)) (arguments_of ws) ≡ true → row_ends row ws ≡ true
 unfolding row_ends
 row_ends_at row ws h = h
+
+pub mark_len-small : (ws : Words) → mark_len ws ≤ 1
+mark_len-small [] = omega arith
+mark_len-small (word ∷ ws) = small (bytes_eq word (codes "--")) where
+  small : (b : Bool) → cond b 1 0 ≤ 1
+  small true = omega arith
+  small false = omega arith

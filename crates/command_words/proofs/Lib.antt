@@ -4,3 +4,6 @@ pub mod Different
 pub mod Standing
 pub mod Fronts
 pub mod Lifted
+pub mod Commas
+pub mod Closed
+pub mod Completed

@@ -4,3 +4,4 @@ pub mod Flags
 pub mod Arguments
 pub mod Spelled
 pub mod Fault
+pub mod Commands

@@ -1,8 +1,9 @@
 //! One command, read from its words.
-ghost use Rattle.std.specs.Prelude.{◌≡◌, ◌+◌, ◌<◌, ◌≤◌, Some, IfOk, IfErr, length, is_some, if◌then◌else◌};
+ghost use Rattle.std.specs.Prelude.{◌≡◌, ◌+◌, ◌<◌, ◌≤◌, Some, IfOk, IfErr, length, List, ℕ, ◌++◌, true, if◌then◌else◌};
 ghost use Rattle.command_words.specs.Arguments.{Judges};
-ghost use Rattle.command_words.specs.Spelled.{flags_of, arguments_of, mark_len, after_flags, row_begins, row_ends, row_spells, spelled};
+ghost use Rattle.command_words.specs.Spelled.{flags_of, arguments_of, mark_len, after_flags, row_begins, row_ends, row_spells, spelled, begins, is_command};
 ghost use Rattle.command_words.specs.Table.{rule, table};
+ghost use Rattle.command_words.specs.Commands.{Begins};
 ghost use Rattle.command_words.specs.Fault.{IsAt, IsRowFault, IsCommandFault};
 ghost use Rattle.command_words.specs.Plain.{plain};
 ghost use Rattle.std.specs.List.{list_any};
@@ -104,4 +105,11 @@ pub fn read_command(alloc: Global, words: &[Text]) -> Result<Command, WordFault>
             }),
         },
     }
+}
+
+/// Words can be the first of a command exactly where some words complete them to one.
+pub fn fronts_complete()
+    ensures closed { (front rest : List (List ℕ)) → is_command (front ++ rest) ≡ true → begins front ≡ true }
+    ensures completed { (front : List (List ℕ)) → begins front ≡ true → Begins is_command front }
+{
 }
