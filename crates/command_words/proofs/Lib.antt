@@ -7,3 +7,4 @@ pub mod Lifted
 pub mod Commas
 pub mod Closed
 pub mod Completed
+pub mod Parts

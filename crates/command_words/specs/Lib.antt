@@ -5,3 +5,4 @@ pub mod Arguments
 pub mod Spelled
 pub mod Fault
 pub mod Commands
+pub mod Cutting

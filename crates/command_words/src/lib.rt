@@ -16,7 +16,7 @@ pub use build::{command_of, components_len};
 pub use command::{Command, Follow, Origin};
 pub use flags::{is_flag, flags_len, standing_flags, switch_of, text_of, texts_of};
 pub use fault::WordFault;
-pub use piece::{Piece};
+pub use piece::{Piece, Cutter, cut_list};
 pub use words::Words;
 pub use read::{read_command, fronts_complete};
 pub use table::{Arguments, Flag, Form, Kind, Row, MirrorVerb, RepoVerb, SnapshotVerb, PublishVerb, OtherVerb, find_row, is_group};
