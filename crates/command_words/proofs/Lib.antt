@@ -8,3 +8,4 @@ pub mod Commas
 pub mod Closed
 pub mod Completed
 pub mod Parts
+pub mod Each

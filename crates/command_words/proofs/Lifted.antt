@@ -1,16 +1,20 @@
 -- A fault behind a group and a verb is a fault of the command.
-use Rattle.std.proofs.Common.{◌≡◌, ℕ, ◌+◌, ◌-◌, ◌≤◌, ◌<◌, suc, Bool, true, false, ◌&&◌, cond, List, [], ◌∷◌, length, take, drop, get_or, refl, sym, ap, ◌∙◌, subst, arith, Option, Some, None, is_some, Result}
-use Rattle.std.proofs.lemmas.List.{take_all}
+use Rattle.std.proofs.Common.{◌≡◌, ℕ, ◌+◌, ◌-◌, ◌≤◌, ◌<◌, suc, Bool, true, false, ◌&&◌, cond, List, [], ◌∷◌, length, take, drop, get_or, refl, sym, ap, ◌∙◌, subst, arith, Option, Some, None, is_some, Result, nat_lt, ltb-true, ltb-false}
+use Rattle.std.proofs.lemmas.Bool.{false≢true}
+use Rattle.std.proofs.lemmas.List.{take_all, take-append-drop}
 use Rattle.std.proofs.lemmas.Result.{IfErr-weaker}
 use Rattle.std.specs.List.{find}
 use Rattle.std.specs.Result.{IfErr}
 use Rattle.command_words.specs.declared.fault.WordFault.{WordFault}
 use Rattle.command_words.specs.declared.fault.WordFault.TheVariants.{At, OutOfMemory}
 use Rattle.command_words.specs.Arguments.{IsFirstFault}
+use Rattle.command_words.specs.Commands.{IsLongestFront}
 use Rattle.command_words.specs.Fault.{IsAt, IsRowFault, IsCommandFault}
 use Rattle.command_words.specs.Plain.{Word, Words, PlainCommand}
-use Rattle.command_words.specs.Spelled.{command_of, flags_of, arguments_of, row_begins, row_ends, row_spells, begun_by, spelled_by, begins, is_command}
+use Rattle.command_words.specs.Spelled.{command_of, flags_of, arguments_of, row_begins, row_ends, row_spells, begun_by, spelled, spelled_by, begins, is_command}
 use Rattle.command_words.specs.Table.{RowRule, table, has_key}
+use Rattle.command_words.proofs.Closed.{begins-from_command}
+use Rattle.command_words.proofs.Completed.{command_from_begins}
 
 -- a list of two words or more
 pub two_words : (ws : Words) (group verb : Word) → 2 ≤ length ws → group ≡ get_or ws 0 group → verb ≡ get_or ws 1 verb → ws ≡ group ∷ verb ∷ take (length ws - 2) (drop 2 ws)
@@ -45,3 +49,24 @@ pub fault_to_command : {T : Type 0} (ws others : Words) (group verb : Word) (row
 fault_to_command ws others group verb row r same e h =
     let P : Words → Type 0 = λ w. IfErr r (IsAt (IsCommandFault w)) in
     subst P (sym same) (IfErr-weaker r (IsAt (IsRowFault row others)) (IsAt (IsCommandFault (group ∷ verb ∷ others))) (lifted group verb others row (sym e)) h)
+
+-- ---- the place of a command's fault, in the words of the fronts
+
+pub longest_front : (ws : Words) (place : ℕ) → IsCommandFault ws place → IsLongestFront is_command ws place
+longest_front ws place fault =
+    (fault.0, command_from_begins (take place ws) fault.1, λ h more. false≢true (sym (fault.2 h) ∙ begins-from_command (take (place + 1) ws) more.0 more.1))
+
+none_from : (o : Option PlainCommand) → is_some o ≡ false → o ≡ None
+none_from None h = refl
+none_from (Some command) h = cc
+
+unreadable_before : (ws : Words) (place : ℕ) → place < length ws → IsCommandFault ws place → (b : Bool) → is_command ws ≡ b → b ≡ false
+unreadable_before ws place h fault false e = refl
+unreadable_before ws place h fault true e =
+    absurd (false≢true (sym (fault.2 h) ∙ begins-from_command (take (place + 1) ws) (drop (place + 1) ws) (ap is_command (take-append-drop (place + 1) ws) ∙ e)))
+
+pub unreadable : (ws : Words) (place : ℕ) → IsCommandFault ws place → spelled ws ≡ None
+unreadable ws place fault = none_from (spelled ws) (chosen (nat_lt place (length ws)) refl) where
+  chosen : (b : Bool) → nat_lt place (length ws) ≡ b → is_command ws ≡ false
+  chosen true e = unreadable_before ws place (ltb-true place (length ws) e) fault (is_command ws) refl
+  chosen false e = fault.3 (omega (arith, ltb-false place (length ws) e, fault.0))

@@ -116,11 +116,13 @@ IsLongestFront reads words place = (place ≤ length words) × Begins reads (tak
 abbrev pub is_readable : Words → Bool
 is_readable words = is_some (commands words)
 
--- the place in a command of a list that has n commands before it: the 1,001st has that of its first word
+-- the place in a command of a list: the longest front of its words that can be the first of a command
+abbrev pub IsPlaceIn : Part → ℕ → Type 0
+IsPlaceIn p place = (spelled p.words ≡ None) × ((inner : ℕ) × (place ≡ p.start + inner) × IsLongestFront is_command p.words inner)
+
+-- the same, where n commands stand before it: the 1,001st has the place of its first word
 abbrev pub IsPartFault : ℕ → Part → ℕ → Type 0
-IsPartFault n p place =
-    ((n ≡ 1000) × (place ≡ p.start))
-    ⊎ ((n < 1000) × (spelled p.words ≡ None) × (inner : ℕ) × (place ≡ p.start + inner) × IsLongestFront is_command p.words inner)
+IsPartFault n p place = ((n ≡ 1000) × (place ≡ p.start)) ⊎ ((n < 1000) × IsPlaceIn p place)
 
 -- the place in the first command of a list that is at fault
 abbrev pub IsListFault : List Part → ℕ → Type 0
