@@ -1,0 +1,7 @@
+pub mod Lines
+pub mod Fields
+pub mod Spelled
+pub mod Reading
+pub mod Faults
+pub mod Answers
+pub mod Written
