@@ -131,3 +131,9 @@ IsListFault parts place = (front : List Part) × (p : Part) × (back : List Part
 -- the usage place of words that spell no commands
 abbrev pub IsUsagePlace : Words → ℕ → Type 0
 IsUsagePlace words place = (commands words ≡ None) × MatchOption (after_task_run words) (IsLongestFront is_readable words place) (λ rest. IsListFault (cut 2 rest) place)
+
+-- where the words after `demo` are at fault
+abbrev pub demo_place : Words → Option ℕ
+demo_place [] = Some 1
+demo_place (number ∷ []) = if is_demo_number number then None else Some 1
+demo_place (number ∷ more ∷ words) = if is_demo_number number then Some 2 else Some 1

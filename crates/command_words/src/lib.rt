@@ -4,6 +4,7 @@
 mod arguments;
 mod build;
 mod command;
+mod demo;
 mod fault;
 mod flags;
 mod list;
@@ -17,6 +18,7 @@ pub use build::{command_of, components_len};
 pub use command::{Command, Follow, Origin};
 pub use flags::{is_flag, flags_len, standing_flags, switch_of, text_of, texts_of};
 pub use fault::WordFault;
+pub use demo::{demo_fault, read_demonstration};
 pub use list::read_list;
 pub use piece::{Piece, Cutter, cut_list};
 pub use words::Words;
