@@ -9,3 +9,4 @@ pub mod Closed
 pub mod Completed
 pub mod Parts
 pub mod Each
+pub mod Top
