@@ -11,9 +11,9 @@ use Rattle.std.specs.Prelude.{codes}
 use Rattle.std.specs.Str.{bytes_eq}
 use Rattle.command_words.specs.declared.table.Arguments.{Arguments}
 use Rattle.command_words.specs.declared.table.Arguments.TheVariants.{Between, AtLeast, Apart, Origin, Sources, Switched}
-use Rattle.command_words.specs.Arguments.{arguments_begin, arguments_end, is_onto_itself, begins_origin, ends_origin, is_source_kind}
+use Rattle.command_words.specs.Arguments.{arguments_begin, arguments_end, is_onto_itself, begins_origin}
 use Rattle.command_words.specs.Commands.{Begins}
-use Rattle.command_words.specs.Flags.{is_flag, flags_stand, flag_stands}
+use Rattle.command_words.specs.Flags.{is_flag, flags_stand}
 use Rattle.command_words.specs.Plain.{Word, Words, PlainCommand}
 use Rattle.command_words.specs.Spelled.{command_of, components_len, flags_of, after_flags, mark_len, arguments_of, row_begins, row_ends, spelled_by, begun_by, begins, is_command}
 use Rattle.command_words.specs.Table.{RowRule, table, has_key}
@@ -121,17 +121,19 @@ KeepsParts ws rest = (flags_of (ws ++ rest) ≡ flags_of ws) × (arguments_of (w
 all_flags : (ws rest : Words) → prefix_len is_flag ws ≡ length ws → prefix_len is_flag (ws ++ rest) ≡ length ws → mark_len rest ≡ 0 → KeepsParts ws rest
 all_flags ws rest e p m =
     let after = ap (λ n. drop n (ws ++ rest)) p ∙ drop-append_seam ws rest in
-    let none = drop_all (prefix_len is_flag ws) ws (omega arith) in
-    (ap (λ n. take n (ws ++ rest)) p ∙ take-append_seam ws rest ∙ sym (take_all (prefix_len is_flag ws) ws (omega arith)),
-     ap (λ z. drop (mark_len z) z) after ∙ ap (λ n. drop n rest) m ∙ ap (λ z. drop (mark_len z) z ++ rest) (sym none))
+    let none = drop_all (prefix_len is_flag ws) ws (omega arith) in (
+      ap (λ n. take n (ws ++ rest)) p ∙ take-append_seam ws rest ∙ sym (take_all (prefix_len is_flag ws) ws (omega arith)),
+      ap (λ z. drop (mark_len z) z) after ∙ ap (λ n. drop n rest) m ∙ ap (λ z. drop (mark_len z) z ++ rest) (sym none),
+    )
 
 some_others : (ws rest : Words) → prefix_len is_flag ws < length ws → prefix_len is_flag (ws ++ rest) ≡ prefix_len is_flag ws → KeepsParts ws rest
 some_others ws rest h p =
     let k = prefix_len is_flag ws in
     let z = after_flags ws in
-    let after = ap (λ n. drop n (ws ++ rest)) p ∙ drop-append-le k ws rest (omega arith) in
-    (ap (λ n. take n (ws ++ rest)) p ∙ take-append-le k ws rest (omega arith),
-     ap (λ u. drop (mark_len u) u) after ∙ ap (λ n. drop n (z ++ rest)) (mark_len-append z rest (omega (arith, length-drop k ws))) ∙ drop-append-le (mark_len z) z rest (mark_len-le z))
+    let after = ap (λ n. drop n (ws ++ rest)) p ∙ drop-append-le k ws rest (omega arith) in (
+      ap (λ n. take n (ws ++ rest)) p ∙ take-append-le k ws rest (omega arith),
+      ap (λ u. drop (mark_len u) u) after ∙ ap (λ n. drop n (z ++ rest)) (mark_len-append z rest (omega (arith, length-drop k ws))) ∙ drop-append-le (mark_len z) z rest (mark_len-le z),
+    )
 
 unequal : (m n : ℕ) → eqb m n ≡ false → m ≡ n → ⊥
 unequal m n e same = false≢true (sym e ∙ eq-eqb m n same)

@@ -1,5 +1,5 @@
 -- A word that doesn't begin with a dash.
-use Rattle.std.proofs.Common.{◌≡◌, ◌≢◌, ℕ, eqb, cond, Bool, true, false, List, [], ◌∷◌, refl, sym, ap, drop, eqb-true}
+use Rattle.std.proofs.Common.{◌≡◌, ◌≢◌, ℕ, eqb, cond, Bool, true, false, List, [], ◌∷◌, refl, ap, eqb-true}
 use Rattle.command_words.specs.Flags.{strip_dash}
 
 pub strip_dash_none : (word : List ℕ) → ((rest : List ℕ) → word ≢ 45 ∷ rest) → word ≡ strip_dash word

@@ -1,8 +1,8 @@
 -- How many different texts references show.
-use Rattle.std.proofs.Common.{◌≡◌, ℕ, Bool, true, false, cond, List, [], ◌∷◌, map, length, refl, ap, suc, Bor, sym, ◌∙◌, rules}
+use Rattle.std.proofs.Common.{◌≡◌, ℕ, Bool, true, false, cond, List, [], ◌∷◌, map, length, refl, ap, suc, Bor}
 use Rattle.std.proofs.lemmas.Cmp.{nat_list_eq_equiv}
 use Rattle.std.specs.Cmp.{IsEquivalence}
-use Rattle.std.specs.Set.{distinct_count, unique_keys, is_member}
+use Rattle.std.specs.Set.{distinct_count, unique_keys}
 use Rattle.std.specs.Str.{bytes_eq}
 use Rattle.command_words.proofs.Rows.{list_any-map}
 

@@ -1,15 +1,13 @@
 -- A list of commands, read part by part.
-use Rattle.std.proofs.Common.{◌≡◌, ℕ, ◌+◌, ◌-◌, ◌≤◌, ◌<◌, ◌^◌, suc, leb, le-leb, Bool, true, false, cond, List, [], ◌∷◌, ◌++◌, map, length, take, drop, get_or, refl, sym, ap, ◌∙◌, subst, arith, ◌⊎◌, inl, inr, Option, Some, None, is_some, length-append, All, drop-cons, add-one}
+use Rattle.std.proofs.Common.{◌≡◌, ℕ, ◌+◌, ◌≤◌, ◌<◌, ◌^◌, suc, le-leb, Bool, true, false, cond, List, [], ◌∷◌, ◌++◌, map, length, take, drop, get_or, refl, sym, ap, ◌∙◌, subst, arith, inr, Option, Some, None, is_some, All, drop-cons}
 use Rattle.std.proofs.lemmas.List.{take_more, take_all, length-take-le, take-append-drop, length-map, map-append, get_or-map}
-use Rattle.std.proofs.lemmas.List.Elements.{All-cons, All-nil, All-head, All-tail, All-weaker, All-push}
-use Rattle.std.proofs.lemmas.Result.{err_from_is_err_and, IfErr-weaker}
+use Rattle.std.proofs.lemmas.List.Elements.{All-cons, All-nil, All-head, All-tail, All-weaker}
 use Rattle.std.specs.Prelude.{codes, option_map}
-use Rattle.std.specs.Result.{IfErr}
 use Rattle.command_words.specs.declared.fault.WordFault.{WordFault}
 use Rattle.command_words.specs.declared.fault.WordFault.TheVariants.{At, OutOfMemory}
 use Rattle.std.specs.Str.{bytes_eq}
 use Rattle.command_words.specs.declared.piece.Piece.{Piece}
-use Rattle.command_words.specs.Commands.{Part, part, cut, put_before, ends_with_comma, without_last, with_first, each_spelled, listed, IsPlaceIn, IsPartFault, IsListFault, IsLongestFront}
+use Rattle.command_words.specs.Commands.{Part, part, cut, put_before, ends_with_comma, without_last, with_first, each_spelled, listed, IsPlaceIn, IsPartFault, IsListFault}
 use Rattle.command_words.specs.Fault.{IsAt, IsCommandFault}
 use Rattle.command_words.specs.Plain.{Word, Words, PlainCommand}
 use Rattle.command_words.specs.Spelled.{spelled, is_command}
@@ -32,6 +30,7 @@ each-append [] ys done h = nothing_before (each_spelled ys) done h where
   same : (o : Option (List PlainCommand)) → o ≡ option_map (λ more. more) o
   same None = refl
   same (Some commands) = refl
+
   nothing_before : (o : Option (List PlainCommand)) (done : List PlainCommand) → Some [] ≡ Some done → o ≡ option_map (λ more. done ++ more) o
   nothing_before o done e = let none : [] ≡ done = cc in same o ∙ ap (λ d. option_map (λ more. d ++ more) o) none
 each-append (p ∷ xs) ys done h = chosen (spelled p.words) (each_spelled xs) refl h (each-append xs ys) where
@@ -42,9 +41,9 @@ each-append (p ∷ xs) ys done h = chosen (spelled p.words) (each_spelled xs) re
       let whole : command ∷ d ≡ done = cc in
       ap (λ r. with_first (Some command) r) (ih d e) ∙ front (each_spelled ys) ∙ ap (λ w. option_map (λ more. w ++ more) (each_spelled ys)) whole
     where
-    front : (o : Option (List PlainCommand)) → with_first (Some command) (option_map (λ more. d ++ more) o) ≡ option_map (λ more. (command ∷ d) ++ more) o
-    front None = refl
-    front (Some more) = refl
+      front : (o : Option (List PlainCommand)) → with_first (Some command) (option_map (λ more. d ++ more) o) ≡ option_map (λ more. (command ∷ d) ++ more) o
+      front None = refl
+      front (Some more) = refl
 
 pub one_more : (pieces : List Piece) (i : ℕ) (piece : Piece) (done : List PlainCommand) (command : PlainCommand) → i < length pieces → piece ≡ get_or pieces i piece → each_spelled (map part (take i pieces)) ≡ Some done → spelled piece.words.items ≡ Some command → each_spelled (map part (take (i + 1) pieces)) ≡ Some (done ++ command ∷ [])
 one_more pieces i piece done command h e before here =

@@ -1,5 +1,5 @@
 -- A fault behind a group and a verb is a fault of the command.
-use Rattle.std.proofs.Common.{◌≡◌, ℕ, ◌+◌, ◌-◌, ◌≤◌, ◌<◌, suc, Bool, true, false, ◌&&◌, cond, List, [], ◌∷◌, length, take, drop, get_or, refl, sym, ap, ◌∙◌, subst, arith, Option, Some, None, is_some, Result, nat_lt, ltb-true, ltb-false}
+use Rattle.std.proofs.Common.{◌≡◌, ℕ, ◌+◌, ◌-◌, ◌≤◌, ◌<◌, suc, Bool, true, false, ◌&&◌, cond, [], ◌∷◌, length, take, drop, get_or, refl, sym, ap, ◌∙◌, subst, arith, Option, Some, None, is_some, Result, nat_lt, ltb-true, ltb-false}
 use Rattle.std.proofs.lemmas.Bool.{false≢true}
 use Rattle.std.proofs.lemmas.List.{take_all, take-append-drop}
 use Rattle.std.proofs.lemmas.Result.{IfErr-weaker}
@@ -7,7 +7,6 @@ use Rattle.std.specs.List.{find}
 use Rattle.std.specs.Result.{IfErr}
 use Rattle.command_words.specs.declared.fault.WordFault.{WordFault}
 use Rattle.command_words.specs.declared.fault.WordFault.TheVariants.{At, OutOfMemory}
-use Rattle.command_words.specs.Arguments.{IsFirstFault}
 use Rattle.command_words.specs.Commands.{IsLongestFront}
 use Rattle.command_words.specs.Fault.{IsAt, IsRowFault, IsCommandFault}
 use Rattle.command_words.specs.Plain.{Word, Words, PlainCommand}

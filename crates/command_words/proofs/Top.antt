@@ -1,15 +1,14 @@
 -- The words of a whole command line.
-use Rattle.std.proofs.Common.{◌≡◌, ℕ, ◌+◌, ◌≤◌, ◌<◌, suc, zero, leb, Bool, true, false, ◌&&◌, cond, List, [], ◌∷◌, ◌++◌, length, take, drop, refl, sym, ap, ◌∙◌, subst, arith, ◌⊎◌, inl, inr, Option, Some, None, is_some, Result, length-append}
-use Rattle.std.proofs.lemmas.Bool.{false≢true, lt-leb, and_parts}
+use Rattle.std.proofs.Common.{◌≡◌, ℕ, ◌+◌, ◌<◌, suc, zero, leb, Bool, true, false, ◌&&◌, cond, List, [], ◌∷◌, ◌++◌, length, take, refl, sym, ap, ◌∙◌, subst, arith, ◌⊎◌, inl, inr, Option, Some, None, is_some, Result, length-append}
+use Rattle.std.proofs.lemmas.Bool.{false≢true, lt-leb}
 use Rattle.std.proofs.lemmas.Result.{IfErr-weaker}
 use Rattle.std.proofs.lemmas.Slice.Eq.{bytes_eq-Decides}
-use Rattle.std.specs.List.{find}
-use Rattle.std.specs.Prelude.{codes, option_map, MatchOption}
+use Rattle.std.specs.Prelude.{codes, MatchOption}
 use Rattle.std.specs.Result.{IfErr}
 use Rattle.std.specs.Str.{bytes_eq}
 use Rattle.command_words.specs.declared.fault.WordFault.{WordFault}
 use Rattle.command_words.specs.declared.fault.WordFault.TheVariants.{At, OutOfMemory}
-use Rattle.command_words.specs.Commands.{Part, cut, with_first, each_spelled, listed, after_task_run, is_first, rest_of, single, list_or, demo_commands, is_demo_number, demonstration, demo_place, commands, Begins, IsLongestFront, is_readable, IsPlaceIn, IsPartFault, IsListFault, IsUsagePlace}
+use Rattle.command_words.specs.Commands.{Part, cut, with_first, each_spelled, listed, after_task_run, is_first, rest_of, single, list_or, demo_commands, is_demo_number, demonstration, demo_place, commands, Begins, IsLongestFront, is_readable, IsPlaceIn, IsListFault, IsUsagePlace}
 use Rattle.command_words.specs.Fault.{IsAt, IsCommandFault}
 use Rattle.command_words.specs.Plain.{Word, Words, PlainCommand}
 use Rattle.command_words.specs.Spelled.{spelled, is_command, row_begins, row_ends}
@@ -36,6 +35,7 @@ pub unlisted : (parts : List Part) (place : ℕ) → IsListFault parts place →
 unlisted parts place (front, p, back, split, read, fault) = elim fault [ inl first ↦ too_many first.0 | inr h ↦ none h.1 ] where
   too_many : length front ≡ 1000 → listed parts ≡ None
   too_many n = ap (λ b. cond b (each_spelled parts) None) (lt-leb (length parts) 1000 (omega (arith, ap length split, length-append front (p ∷ back))))
+
   none : IsPlaceIn p place → listed parts ≡ None
   none h = either_none (leb (length parts) 1000) (each_spelled parts) (ap each_spelled split ∙ each_none front p back h.0)
 

@@ -2,8 +2,8 @@
 use Rattle.std.specs.Prelude.{ℕ, List, [], ◌∷◌, ◌++◌, map, if◌then◌else◌, codes}
 use Rattle.std.specs.Str.{bytes_eq}
 use Rattle.command_words.specs.declared.piece.Cutter.{Cutter}
-use Rattle.command_words.specs.Commands.{Part, part, ends_with_comma, without_last, put_before}
-use Rattle.command_words.specs.Plain.{Word, Words}
+use Rattle.command_words.specs.Commands.{Part, part, ends_with_comma, without_last}
+use Rattle.command_words.specs.Plain.{Word}
 
 pub record Cutting : Type 0 where
   pub done : List Part

@@ -6,7 +6,7 @@ use Rattle.std.specs.Str.{bytes_eq}
 use Rattle.command_words.specs.declared.table.Form.{Form}
 use Rattle.command_words.specs.declared.table.Form.TheVariants.{Switch, Text, Texts}
 use Rattle.command_words.specs.Plain.{Word, Words}
-use Rattle.command_words.specs.Table.{FlagRule, RowRule}
+use Rattle.command_words.specs.Table.{FlagRule}
 
 -- a dash and more; the mark `--` is none
 abbrev pub is_flag : Word → Bool

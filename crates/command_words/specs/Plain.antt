@@ -1,5 +1,5 @@
 -- Commands without where they lie in memory.
-use Rattle.std.specs.Prelude.{List, ℕ, Option, Some, None, Bool, option_map}
+use Rattle.std.specs.Prelude.{List, ℕ, Option, Bool, option_map}
 use Rattle.command_words.specs.declared.command.Follow.{Follow}
 use Rattle.command_words.specs.declared.command.Origin.{Origin}
 use Rattle.command_words.specs.declared.command.Command.{Command}

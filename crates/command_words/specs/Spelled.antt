@@ -1,5 +1,5 @@
 -- What the words of one command spell.
-use Rattle.std.specs.Prelude.{◌≡◌, ℕ, ◌+◌, ◌==◌, Bool, true, false, ◌&&◌, if◌then◌else◌, List, [], ◌∷◌, Option, Some, None, is_some, length, take, drop, slice_index_or, slice_get, codes}
+use Rattle.std.specs.Prelude.{ℕ, ◌+◌, ◌==◌, Bool, true, false, ◌&&◌, if◌then◌else◌, [], ◌∷◌, Option, Some, None, is_some, length, take, drop, slice_index_or, slice_get, codes}
 use Rattle.std.specs.List.{find, list_any, prefix_len}
 use Rattle.std.specs.Str.{bytes_eq}
 use Rattle.command_words.specs.declared.command.Origin.{Origin}

@@ -1,5 +1,5 @@
 -- The table of commands: for each group and verb its flags and its arguments.
-use Rattle.std.specs.Prelude.{◌≡◌, ℕ, Bool, ◌&&◌, List, [], ◌∷◌, map, codes}
+use Rattle.std.specs.Prelude.{Bool, ◌&&◌, List, [], ◌∷◌, map, codes}
 use Rattle.std.specs.Str.{bytes_eq}
 use Rattle.command_words.specs.declared.table.Form.{Form}
 use Rattle.command_words.specs.declared.table.Form.TheVariants.{Switch, Text, Texts}

@@ -2,9 +2,8 @@
 ghost use Rattle.std.specs.Prelude.{◌≡◌, ◌+◌, ◌<◌, ◌^◌, ◌≤◌, true, nat_le, not, length};
 ghost use Rattle.command_words.specs.Arguments.{is_onto_itself, is_source_kind, begins_origin, ends_origin, arguments_begin, arguments_end, Judges};
 
-use control_stanza::Text;
-
 use crate::table::Arguments;
+use control_stanza::Text;
 
 /// Wants so many words or more.
 fn at_least(low: usize, words: &[Text]) -> Option<usize>

@@ -6,12 +6,11 @@ ghost use Rattle.command_words.specs.declared.table.RepoVerb.TheVariants as repo
 ghost use Rattle.command_words.specs.declared.table.SnapshotVerb.TheVariants as snapshot;
 ghost use Rattle.command_words.specs.Spelled.{word_at, follow_of, components_len, origin_of, mirror_command, repo_command, snapshot_command, publish_command, other_command, command_of};
 
-use control_stanza::Text;
-use std::alloc::{AllocError, Global};
-
 use crate::command::{Command, Follow, Origin};
 use crate::flags::{switch_of, text_of, texts_of};
 use crate::table::{Kind, MirrorVerb, OtherVerb, PublishVerb, RepoVerb, SnapshotVerb};
+use control_stanza::Text;
+use std::alloc::{AllocError, Global};
 
 /// A copy of the word at a place. The table's forms want a word there.
 fn word_at(alloc: Global, words: &[Text], i: usize) -> Result<Text, AllocError>

@@ -38,7 +38,9 @@ pub enum Command {
         components: Vec<Text>,
     },
     /// `mirror update`: takes what the archive has now.
-    MirrorUpdate { name: Text },
+    MirrorUpdate {
+        name: Text,
+    },
     /// `mirror list`.
     MirrorList,
     /// `mirror show`.
@@ -47,9 +49,14 @@ pub enum Command {
         name: Text,
     },
     /// `mirror rename`.
-    MirrorRename { from_name: Text, to_name: Text },
+    MirrorRename {
+        from_name: Text,
+        to_name: Text,
+    },
     /// `mirror drop`.
-    MirrorDrop { name: Text },
+    MirrorDrop {
+        name: Text,
+    },
     /// `repo create`: a repository without packages.
     RepoCreate {
         comment: Option<Text>,
@@ -58,7 +65,10 @@ pub enum Command {
         name: Text,
     },
     /// `repo add`: the packages of a folder.
-    RepoAdd { name: Text, folder: Text },
+    RepoAdd {
+        name: Text,
+        folder: Text,
+    },
     /// `repo list`.
     RepoList,
     /// `repo show`.
@@ -107,11 +117,19 @@ pub enum Command {
         queries: Vec<Text>,
     },
     /// `repo rename`.
-    RepoRename { from_name: Text, to_name: Text },
+    RepoRename {
+        from_name: Text,
+        to_name: Text,
+    },
     /// `repo drop`.
-    RepoDrop { name: Text },
+    RepoDrop {
+        name: Text,
+    },
     /// `snapshot create`.
-    SnapshotCreate { name: Text, origin: Origin },
+    SnapshotCreate {
+        name: Text,
+        origin: Origin,
+    },
     /// `snapshot list`.
     SnapshotList,
     /// `snapshot show`.
@@ -154,9 +172,14 @@ pub enum Command {
         query: Text,
     },
     /// `snapshot rename`.
-    SnapshotRename { from_name: Text, to_name: Text },
+    SnapshotRename {
+        from_name: Text,
+        to_name: Text,
+    },
     /// `snapshot drop`.
-    SnapshotDrop { name: Text },
+    SnapshotDrop {
+        name: Text,
+    },
     /// `publish snapshot`: the i-th source is the i-th component's.
     PublishSnapshot {
         architectures: Option<Vec<Text>>,
@@ -206,9 +229,13 @@ pub enum Command {
         prefix: Option<Text>,
     },
     /// `package search`: by name, version and architecture.
-    PackageSearch { query: Text },
+    PackageSearch {
+        query: Text,
+    },
     /// `package show`: whole.
-    PackageShow { query: Text },
+    PackageShow {
+        query: Text,
+    },
     /// `db cleanup`: removes what nothing needs.
     DbCleanup,
 }

@@ -5,15 +5,14 @@ ghost use Rattle.command_words.specs.Commands.{after_task_run, is_first, command
 ghost use Rattle.command_words.specs.Fault.{IsAt};
 ghost use Rattle.command_words.specs.Plain.{plain};
 
-use control_stanza::Text;
-use std::alloc::Global;
-
 use crate::command::Command;
 use crate::demo::{demo_fault, read_demonstration};
 use crate::fault::WordFault;
 use crate::list::read_list;
 use crate::read::read_command;
 use crate::words::Words;
+use control_stanza::Text;
+use std::alloc::Global;
 
 /// The words of a list, after `task run`.
 fn after_task_run(words: &[Text]) -> Option<&[Text]>

@@ -4,26 +4,64 @@ ghost use Rattle.command_words.specs.Commands.{is_from_to, is_demo_number, demon
 ghost use Rattle.command_words.specs.declared.fault.WordFault.TheVariants.{OutOfMemory};
 ghost use Rattle.command_words.specs.Plain.{plain};
 
-use control_stanza::Text;
-use std::alloc::{AllocError, Global};
-
 use crate::command::Command;
 use crate::fault::WordFault;
 use crate::list::read_list;
+use control_stanza::Text;
+use std::alloc::{AllocError, Global};
 
 /// The demonstration, as it would be written after `task run`.
 static DEMONSTRATION: [&str; 50] = [
-    "mirror", "create", "demo", "made", "demo", "main,",
-    "mirror", "update", "demo,",
-    "snapshot", "create", "demo-all", "from", "mirror", "demo,",
-    "snapshot", "filter", "-with-deps", "demo-all", "demo-some", "pkg99,",
-    "snapshot", "pull", "demo-some", "demo-all", "demo-pulled", "Name (% pkg1??),",
-    "publish", "snapshot", "-distribution=demo", "demo-all", "demo,",
-    "publish", "switch", "demo", "demo", "demo-pulled,",
-    "publish", "switch", "demo", "demo", "demo-some,",
-    "snapshot", "drop", "demo-all,",
-    "mirror", "drop", "demo,",
-    "db", "cleanup",
+    "mirror",
+    "create",
+    "demo",
+    "made",
+    "demo",
+    "main,",
+    "mirror",
+    "update",
+    "demo,",
+    "snapshot",
+    "create",
+    "demo-all",
+    "from",
+    "mirror",
+    "demo,",
+    "snapshot",
+    "filter",
+    "-with-deps",
+    "demo-all",
+    "demo-some",
+    "pkg99,",
+    "snapshot",
+    "pull",
+    "demo-some",
+    "demo-all",
+    "demo-pulled",
+    "Name (% pkg1??),",
+    "publish",
+    "snapshot",
+    "-distribution=demo",
+    "demo-all",
+    "demo,",
+    "publish",
+    "switch",
+    "demo",
+    "demo",
+    "demo-pulled,",
+    "publish",
+    "switch",
+    "demo",
+    "demo",
+    "demo-some,",
+    "snapshot",
+    "drop",
+    "demo-all,",
+    "mirror",
+    "drop",
+    "demo,",
+    "db",
+    "cleanup",
 ];
 
 #[tactic(auto, unfolding(crate::specs::Table::table, crate::specs::Spelled::row_begins, crate::specs::Spelled::row_ends, crate::specs::Spelled::command_of, crate::specs::Flags::flag_stands))]

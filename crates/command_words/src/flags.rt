@@ -7,11 +7,10 @@ ghost use Rattle.std.specs.Str.{bytes_eq};
 ghost use Rattle.command_words.specs.Table.{rule};
 ghost use Rattle.command_words.specs.Flags.{is_flag, strip_dash, undashed, flag_name, flag_value, value_in, parts, is_text_list, has_form, form_of, has_known_form, has_name, switch_value, sets, excludes, flag_stands, IsLongestStanding, switch_of, text_of, texts_of};
 
+use crate::table::{Flag, Form, Row};
 use control_stanza::Text;
 use std::alloc::{AllocError, Global};
 use std::collections::HashSet;
-
-use crate::table::{Flag, Form, Row};
 
 /// Whether a word is a flag: a dash and more. The mark `--` is none.
 pub fn is_flag(word: &str) -> bool

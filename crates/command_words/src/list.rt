@@ -5,13 +5,12 @@ ghost use Rattle.command_words.specs.Fault.{IsAt};
 ghost use Rattle.command_words.specs.Plain.{plain};
 ghost use Rattle.command_words.specs.Spelled.{spelled};
 
-use control_stanza::Text;
-use std::alloc::Global;
-
 use crate::command::Command;
 use crate::fault::WordFault;
 use crate::piece::{Piece, cut_list};
 use crate::read::read_command;
+use control_stanza::Text;
+use std::alloc::Global;
 
 /// A list has at most so many commands.
 const COMMANDS: usize = 1_000;

@@ -9,15 +9,14 @@ ghost use Rattle.command_words.specs.Plain.{plain};
 ghost use Rattle.std.specs.List.{list_any};
 ghost use Rattle.std.specs.Str.{bytes_eq};
 
-use control_stanza::Text;
-use std::alloc::{AllocError, Global};
-
 use crate::arguments::arguments_fault;
 use crate::build::{command_of, components_len};
 use crate::command::Command;
 use crate::fault::WordFault;
 use crate::flags::{flags_len, standing_flags};
 use crate::table::{Row, find_row, is_group};
+use control_stanza::Text;
+use std::alloc::{AllocError, Global};
 
 /// How many of the words are the mark `--` behind the flags.
 fn mark_len(words: &[Text]) -> usize
@@ -72,12 +71,7 @@ fn read_row(alloc: Global, row: &Row, words: &[Text]) -> Result<Command, WordFau
         Some(place) => Err(WordFault::At {
             place: place as u64 + 2,
         }),
-        None => Ok(command_of(
-            alloc,
-            row.kind,
-            flags_of(words),
-            arguments_of(words),
-        )?),
+        None => Ok(command_of(alloc, row.kind, flags_of(words), arguments_of(words))?),
     }
 }
 
@@ -111,5 +105,4 @@ pub fn read_command(alloc: Global, words: &[Text]) -> Result<Command, WordFault>
 pub fn fronts_complete()
     ensures closed { (front rest : List (List ℕ)) → is_command (front ++ rest) ≡ true → begins front ≡ true }
     ensures completed { (front : List (List ℕ)) → begins front ≡ true → Begins is_command front }
-{
-}
+{}

@@ -1,4 +1,4 @@
-use Rattle.std.proofs.Common.{◌≡◌, ◌∙◌, ap, sym, map, Some, Vec}
+use Rattle.std.proofs.Common.{◌≡◌, ◌∙◌, ap, sym, map, Some}
 use Rattle.std.proofs.lemmas.Result.{IfOk-weaker}
 use Rattle.command_words.specs.Commands.{commands, demonstration}
 use Rattle.command_words.specs.Plain.{plain}

@@ -1,4 +1,4 @@
-use Rattle.std.proofs.Common.{◌≡◌, sym}
+use Rattle.std.proofs.Common.{sym}
 use Rattle.command_words.proofs.Top.{task_fault}
 use Rattle.command_words.proofs.commands.read_no_list.Goals as goal
 

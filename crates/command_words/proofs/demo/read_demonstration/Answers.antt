@@ -1,4 +1,4 @@
-use Rattle.std.proofs.Common.{◌≡◌, ◌∙◌, ap, sym, map}
+use Rattle.std.proofs.Common.{◌∙◌, ap}
 use Rattle.command_words.specs.Commands.{cut, listed, demonstration}
 use Rattle.command_words.proofs.Top.{only_memory}
 use Rattle.command_words.proofs.demo.read_demonstration.Goals as goal

@@ -1,4 +1,4 @@
-use Rattle.std.proofs.Common.{rules, tests, ◌≡◌, ◌∙◌, ap, List, ℕ, length, map, nat_eq, map-id}
+use Rattle.std.proofs.Common.{rules, tests, ◌∙◌, ap, length, nat_eq, map-id}
 use Rattle.std.proofs.lemmas.Iterator.{YieldsList-from_slice, YieldsList-from_map_by, items_from_drains}
 use Rattle.std.proofs.lemmas.Map.Made.{hash_set_len-from_list}
 use Rattle.std.specs.Set.{distinct_count}

@@ -1,4 +1,4 @@
-use Rattle.std.proofs.Common.{◌≡◌, arith, sym, ap, take, ◌∙◌}
+use Rattle.std.proofs.Common.{arith, sym, ap, take, ◌∙◌}
 use Rattle.command_words.specs.Table.{rule}
 use Rattle.command_words.specs.Flags.{flag_stands}
 use Rattle.command_words.proofs.Standing.{flags_stand-more, both, second_fails}

@@ -1,4 +1,4 @@
-use Rattle.std.proofs.Common.{◌≡◌, ◌∙◌, ap, map, arith}
+use Rattle.std.proofs.Common.{◌∙◌, ap, map, arith}
 use Rattle.command_words.specs.Commands.{part}
 use Rattle.command_words.proofs.Each.{parts_fit}
 use Rattle.command_words.proofs.list.read_list.Goals as goal

@@ -1,4 +1,3 @@
-use Rattle.std.proofs.Common.{◌≡◌}
 use Rattle.command_words.specs.Commands.{part}
 use Rattle.command_words.proofs.Each.{place_in}
 use Rattle.command_words.proofs.list.read_piece.Goals as goal

@@ -1,7 +1,6 @@
-use Rattle.std.proofs.Common.{◌≡◌, ◌+◌, ◌<◌, ◌^◌, ◌∙◌, ap, sym, arith, inl, refl, map, Some, length, ◌++◌}
+use Rattle.std.proofs.Common.{◌+◌, ◌<◌, ◌^◌, ◌∙◌, ap, sym, arith, inl, refl, map, Some, length}
 use Rattle.std.proofs.lemmas.List.{map-append}
 use Rattle.std.proofs.lemmas.Result.{err_from_is_err_and}
-use Rattle.command_words.specs.Commands.{part}
 use Rattle.command_words.specs.Plain.{plain}
 use Rattle.command_words.proofs.Each.{list_fault, piece_fault, at_piece, one_more}
 use Rattle.command_words.proofs.list.read_pieces.Goals as goal
@@ -22,5 +21,5 @@ pub loop-i-preserved : goal.loop-i-preserved
 loop-i-preserved c = record {
   few = omega arith;
   read = one_more c.args.pieces.now c.loop-i.i c.index-pieces-i.result (map plain c.loop-i.commands.items) (plain c.in_ok-read_piece.field-0) c.loop-i-test.true c.index-pieces-i.is c.loop-i.invariant.read c.in_ok-read_piece.ensures.read
-    ∙ ap Some (sym (map-append plain c.loop-i.commands.items _)) ∙ ap (λ v. Some (map plain v)) (sym c.in_ok-push.ensures.items);
+      ∙ ap Some (sym (map-append plain c.loop-i.commands.items _)) ∙ ap (λ v. Some (map plain v)) (sym c.in_ok-push.ensures.items);
 }

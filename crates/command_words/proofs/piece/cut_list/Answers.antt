@@ -1,4 +1,4 @@
-use Rattle.std.proofs.Common.{◌≡◌, ◌+◌, ◌∙◌, ap, map}
+use Rattle.std.proofs.Common.{◌+◌, ◌∙◌, ap, map}
 use Rattle.command_words.specs.Commands.{part}
 use Rattle.command_words.specs.Cutting.{cutting, one_word_more}
 use Rattle.command_words.proofs.Parts.{none_cut, turn}

@@ -1,4 +1,4 @@
-use Rattle.std.proofs.Common.{◌≡◌, ◌∙◌, ap, sym, ◌-◌, length, take, drop, Some, arith}
+use Rattle.std.proofs.Common.{◌∙◌, ap, ◌-◌, length, take, drop, arith}
 use Rattle.std.specs.List.{find}
 use Rattle.command_words.specs.Table.{rule, table, has_key}
 use Rattle.command_words.proofs.Lifted.{two_words, fault_to_command}

@@ -1,7 +1,7 @@
-use Rattle.std.proofs.Common.{◌≡◌, ap, ◌∙◌}
+use Rattle.std.proofs.Common.{ap, ◌∙◌}
 use Rattle.std.specs.Prelude.{option_map}
 use Rattle.std.specs.List.{find}
-use Rattle.command_words.specs.Table.{rule, has_key, table}
+use Rattle.command_words.specs.Table.{rule, has_key}
 use Rattle.command_words.proofs.Rows.{find-map}
 use Rattle.command_words.proofs.table.find_row.Goals as goal
 

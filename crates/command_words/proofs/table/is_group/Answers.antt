@@ -1,7 +1,7 @@
-use Rattle.std.proofs.Common.{◌≡◌, ap, ◌∙◌}
+use Rattle.std.proofs.Common.{ap, ◌∙◌}
 use Rattle.std.specs.List.{list_any}
 use Rattle.std.specs.Str.{bytes_eq}
-use Rattle.command_words.specs.Table.{rule, table}
+use Rattle.command_words.specs.Table.{rule}
 use Rattle.command_words.proofs.Rows.{list_any-map}
 use Rattle.command_words.proofs.table.is_group.Goals as goal
 
