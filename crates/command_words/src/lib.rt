@@ -12,6 +12,8 @@ mod list;
 mod piece;
 mod read;
 mod table;
+#[cfg(test)]
+mod tests;
 mod words;
 
 pub use command::{Command, Follow, Origin};
