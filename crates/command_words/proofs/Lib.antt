@@ -10,3 +10,4 @@ pub mod Completed
 pub mod Parts
 pub mod Each
 pub mod Top
+pub mod OnePlace

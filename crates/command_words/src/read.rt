@@ -1,9 +1,8 @@
 //! One command, read from its words.
-ghost use Rattle.std.specs.Prelude.{◌≡◌, ◌+◌, ◌<◌, ◌≤◌, Some, IfOk, IfErr, length, List, ℕ, ◌++◌, true, if◌then◌else◌};
+ghost use Rattle.std.specs.Prelude.{◌≡◌, ◌+◌, ◌<◌, ◌≤◌, Some, IfOk, IfErr, length, if◌then◌else◌};
 ghost use Rattle.command_words.specs.Arguments.{Judges};
-ghost use Rattle.command_words.specs.Spelled.{flags_of, arguments_of, mark_len, after_flags, row_begins, row_ends, row_spells, spelled, begins, is_command};
+ghost use Rattle.command_words.specs.Spelled.{flags_of, arguments_of, mark_len, after_flags, row_begins, row_ends, row_spells, spelled};
 ghost use Rattle.command_words.specs.Table.{rule, table};
-ghost use Rattle.command_words.specs.Commands.{Begins};
 ghost use Rattle.command_words.specs.Fault.{IsAt, IsRowFault, IsCommandFault};
 ghost use Rattle.command_words.specs.Plain.{plain};
 ghost use Rattle.std.specs.List.{list_any};
@@ -64,7 +63,9 @@ pub fn row_fault(alloc: Global, row: &Row, words: &[Text]) -> Result<Option<usiz
 
 /// The command of this row that the words after its verb spell.
 fn read_row(alloc: Global, row: &Row, words: &[Text]) -> Result<Command, WordFault>
-    ensures read { IfOk result (λ command. row_spells (rule row.now) words.now ≡ Some (plain command)) }
+    ensures read {
+        IfOk result (λ command. row_spells (rule row.now) words.now ≡ Some (plain command))
+    }
     ensures fault { IfErr result (IsAt (IsRowFault (rule row.now) words.now)) }
 {
     match row_fault(alloc, row, words)? {
@@ -100,9 +101,3 @@ pub fn read_command(alloc: Global, words: &[Text]) -> Result<Command, WordFault>
         },
     }
 }
-
-/// Words can be the first of a command exactly where some words complete them to one.
-pub fn fronts_complete()
-    ensures closed { (front rest : List (List ℕ)) → is_command (front ++ rest) ≡ true → begins front ≡ true }
-    ensures completed { (front : List (List ℕ)) → begins front ≡ true → Begins is_command front }
-{}

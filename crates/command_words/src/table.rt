@@ -166,37 +166,131 @@ macro_rules! row {
 }
 
 static TABLE: [Row; 36] = [
-    row!("mirror" "create", [texts!("architectures"), text!("filter"), switch!("filter-with-deps")], Arguments::AtLeast(3), Kind::Mirror(MirrorVerb::Create)),
+    row!(
+        "mirror" "create",
+        [texts!("architectures"), text!("filter"), switch!("filter-with-deps")],
+        Arguments::AtLeast(3),
+        Kind::Mirror(MirrorVerb::Create)
+    ),
     row!("mirror" "update", [], Arguments::Between(1, 1), Kind::Mirror(MirrorVerb::Update)),
     row!("mirror" "list", [], Arguments::Between(0, 0), Kind::Mirror(MirrorVerb::List)),
-    row!("mirror" "show", [switch!("with-packages")], Arguments::Between(1, 1), Kind::Mirror(MirrorVerb::Show)),
+    row!(
+        "mirror" "show",
+        [switch!("with-packages")],
+        Arguments::Between(1, 1),
+        Kind::Mirror(MirrorVerb::Show)
+    ),
     row!("mirror" "rename", [], Arguments::Between(2, 2), Kind::Mirror(MirrorVerb::Rename)),
     row!("mirror" "drop", [], Arguments::Between(1, 1), Kind::Mirror(MirrorVerb::Drop)),
-    row!("repo" "create", [text!("comment"), text!("distribution"), text!("component")], Arguments::Between(1, 1), Kind::Repo(RepoVerb::Create)),
+    row!(
+        "repo" "create",
+        [text!("comment"), text!("distribution"), text!("component")],
+        Arguments::Between(1, 1),
+        Kind::Repo(RepoVerb::Create)
+    ),
     row!("repo" "add", [], Arguments::Between(2, 2), Kind::Repo(RepoVerb::Add)),
     row!("repo" "list", [], Arguments::Between(0, 0), Kind::Repo(RepoVerb::List)),
-    row!("repo" "show", [switch!("with-packages")], Arguments::Between(1, 1), Kind::Repo(RepoVerb::Show)),
-    row!("repo" "edit", [text!("comment"), text!("distribution"), text!("component")], Arguments::Between(1, 1), Kind::Repo(RepoVerb::Edit)),
-    row!("repo" "remove", [switch!("dry-run")], Arguments::AtLeast(2), Kind::Repo(RepoVerb::Remove)),
-    row!("repo" "copy", [switch!("dry-run"), switch!("with-deps"), texts!("architectures"), switch!("dep-follow-recommends"), switch!("dep-follow-suggests")], Arguments::Apart, Kind::Repo(RepoVerb::Copy)),
-    row!("repo" "move", [switch!("dry-run"), switch!("with-deps"), texts!("architectures"), switch!("dep-follow-recommends"), switch!("dep-follow-suggests")], Arguments::Apart, Kind::Repo(RepoVerb::Move)),
-    row!("repo" "import", [switch!("dry-run"), switch!("with-deps"), texts!("architectures"), switch!("dep-follow-recommends"), switch!("dep-follow-suggests")], Arguments::AtLeast(3), Kind::Repo(RepoVerb::Import)),
+    row!(
+        "repo" "show",
+        [switch!("with-packages")],
+        Arguments::Between(1, 1),
+        Kind::Repo(RepoVerb::Show)
+    ),
+    row!(
+        "repo" "edit",
+        [text!("comment"), text!("distribution"), text!("component")],
+        Arguments::Between(1, 1),
+        Kind::Repo(RepoVerb::Edit)
+    ),
+    row!(
+        "repo" "remove",
+        [switch!("dry-run")],
+        Arguments::AtLeast(2),
+        Kind::Repo(RepoVerb::Remove)
+    ),
+    row!(
+        "repo" "copy",
+        [switch!("dry-run"), switch!("with-deps"), texts!("architectures"),
+         switch!("dep-follow-recommends"), switch!("dep-follow-suggests")],
+        Arguments::Apart,
+        Kind::Repo(RepoVerb::Copy)
+    ),
+    row!(
+        "repo" "move",
+        [switch!("dry-run"), switch!("with-deps"), texts!("architectures"),
+         switch!("dep-follow-recommends"), switch!("dep-follow-suggests")],
+        Arguments::Apart,
+        Kind::Repo(RepoVerb::Move)
+    ),
+    row!(
+        "repo" "import",
+        [switch!("dry-run"), switch!("with-deps"), texts!("architectures"),
+         switch!("dep-follow-recommends"), switch!("dep-follow-suggests")],
+        Arguments::AtLeast(3),
+        Kind::Repo(RepoVerb::Import)
+    ),
     row!("repo" "rename", [], Arguments::Between(2, 2), Kind::Repo(RepoVerb::Rename)),
     row!("repo" "drop", [], Arguments::Between(1, 1), Kind::Repo(RepoVerb::Drop)),
     row!("snapshot" "create", [], Arguments::Origin, Kind::Snapshot(SnapshotVerb::Create)),
     row!("snapshot" "list", [], Arguments::Between(0, 0), Kind::Snapshot(SnapshotVerb::List)),
-    row!("snapshot" "show", [switch!("with-packages")], Arguments::Between(1, 1), Kind::Snapshot(SnapshotVerb::Show)),
-    row!("snapshot" "filter", [switch!("with-deps"), texts!("architectures"), switch!("dep-follow-recommends"), switch!("dep-follow-suggests")], Arguments::AtLeast(3), Kind::Snapshot(SnapshotVerb::Filter)),
-    row!("snapshot" "merge", [switch!("latest"), switch!("no-remove")], Arguments::AtLeast(2), Kind::Snapshot(SnapshotVerb::Merge)),
-    row!("snapshot" "pull", [switch!("all-matches"), switch!("dry-run"), switch!("no-deps"), switch!("no-remove"), texts!("architectures"), switch!("dep-follow-recommends"), switch!("dep-follow-suggests")], Arguments::AtLeast(4), Kind::Snapshot(SnapshotVerb::Pull)),
-    row!("snapshot" "search", [switch!("with-deps"), texts!("architectures"), switch!("dep-follow-recommends"), switch!("dep-follow-suggests")], Arguments::Between(2, 2), Kind::Snapshot(SnapshotVerb::Search)),
+    row!(
+        "snapshot" "show",
+        [switch!("with-packages")],
+        Arguments::Between(1, 1),
+        Kind::Snapshot(SnapshotVerb::Show)
+    ),
+    row!(
+        "snapshot" "filter",
+        [switch!("with-deps"), texts!("architectures"), switch!("dep-follow-recommends"),
+         switch!("dep-follow-suggests")],
+        Arguments::AtLeast(3),
+        Kind::Snapshot(SnapshotVerb::Filter)
+    ),
+    row!(
+        "snapshot" "merge",
+        [switch!("latest"), switch!("no-remove")],
+        Arguments::AtLeast(2),
+        Kind::Snapshot(SnapshotVerb::Merge)
+    ),
+    row!(
+        "snapshot" "pull",
+        [switch!("all-matches"), switch!("dry-run"), switch!("no-deps"), switch!("no-remove"),
+         texts!("architectures"), switch!("dep-follow-recommends"),
+         switch!("dep-follow-suggests")],
+        Arguments::AtLeast(4),
+        Kind::Snapshot(SnapshotVerb::Pull)
+    ),
+    row!(
+        "snapshot" "search",
+        [switch!("with-deps"), texts!("architectures"), switch!("dep-follow-recommends"),
+         switch!("dep-follow-suggests")],
+        Arguments::Between(2, 2),
+        Kind::Snapshot(SnapshotVerb::Search)
+    ),
     row!("snapshot" "rename", [], Arguments::Between(2, 2), Kind::Snapshot(SnapshotVerb::Rename)),
     row!("snapshot" "drop", [], Arguments::Between(1, 1), Kind::Snapshot(SnapshotVerb::Drop)),
-    row!("publish" "snapshot", [texts!("architectures"), texts!("component"), text!("distribution"), text!("origin"), text!("label"), text!("suite"), text!("codename")], Arguments::Sources, Kind::Publish(PublishVerb::Snapshot)),
-    row!("publish" "repo", [texts!("architectures"), texts!("component"), text!("distribution"), text!("origin"), text!("label"), text!("suite"), text!("codename")], Arguments::Sources, Kind::Publish(PublishVerb::Repo)),
+    row!(
+        "publish" "snapshot",
+        [texts!("architectures"), texts!("component"), text!("distribution"), text!("origin"),
+         text!("label"), text!("suite"), text!("codename")],
+        Arguments::Sources,
+        Kind::Publish(PublishVerb::Snapshot)
+    ),
+    row!(
+        "publish" "repo",
+        [texts!("architectures"), texts!("component"), text!("distribution"), text!("origin"),
+         text!("label"), text!("suite"), text!("codename")],
+        Arguments::Sources,
+        Kind::Publish(PublishVerb::Repo)
+    ),
     row!("publish" "list", [], Arguments::Between(0, 0), Kind::Publish(PublishVerb::List)),
     row!("publish" "show", [], Arguments::Between(1, 2), Kind::Publish(PublishVerb::Show)),
-    row!("publish" "switch", [texts!("component")], Arguments::Switched, Kind::Publish(PublishVerb::Switch)),
+    row!(
+        "publish" "switch",
+        [texts!("component")],
+        Arguments::Switched,
+        Kind::Publish(PublishVerb::Switch)
+    ),
     row!("publish" "update", [], Arguments::Between(1, 2), Kind::Publish(PublishVerb::Update)),
     row!("publish" "drop", [], Arguments::Between(1, 2), Kind::Publish(PublishVerb::Drop)),
     row!("package" "search", [], Arguments::Between(1, 1), Kind::Other(OtherVerb::Search)),
@@ -214,7 +308,10 @@ fn all_rows() -> &'static [Row]
 
 /// The first row with this group and this verb.
 fn find_among(rows: &'static [Row], group: &str, verb: &str) -> Option<&'static Row>
-    ensures { option_copied result ≡ find (λ r. bytes_eq r.group.now group.now && bytes_eq r.verb.now verb.now) rows.now }
+    ensures {
+        option_copied result ≡ find (λ r. bytes_eq r.group.now group.now
+            && bytes_eq r.verb.now verb.now) rows.now
+    }
 {
     rows.iter()
         .find(|row| row.group == group && row.verb == verb)
