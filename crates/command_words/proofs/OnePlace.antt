@@ -1,11 +1,11 @@
 -- Words have one usage place at most.
-use Rattle.std.proofs.Common.{◌≡◌, ℕ, ◌+◌, ◌≤◌, ◌<◌, Bool, true, false, List, [], ◌∷◌, ◌++◌, length, take, drop, get_or, refl, sym, ap, ◌∙◌, subst, arith, ◌⊎◌, inl, inr, Option, Some, None, is_some, append_assoc}
+use Rattle.std.proofs.Common.{◌≡◌, ℕ, ◌+◌, ◌<◌, Bool, true, List, ◌∷◌, ◌++◌, length, take, drop, get_or, sym, ap, ◌∙◌, subst, arith, inl, inr, Option, Some, None, is_some, append_assoc}
 use Rattle.std.proofs.Math.ListN.{get_or-append}
 use Rattle.std.proofs.Math.Seq.{get_or-append_seam}
 use Rattle.std.proofs.lemmas.Bool.{false≢true}
 use Rattle.std.proofs.lemmas.List.{take-take, take-append-drop}
 use Rattle.std.specs.Prelude.{MatchOption}
-use Rattle.command_words.specs.Commands.{Part, cut, after_task_run, Begins, IsLongestFront, is_readable, IsPlaceIn, IsPartFault, IsListFault, IsUsagePlace}
+use Rattle.command_words.specs.Commands.{Part, cut, after_task_run, IsLongestFront, is_readable, IsPartFault, IsListFault, IsUsagePlace}
 use Rattle.command_words.specs.Plain.{Words}
 use Rattle.command_words.specs.Spelled.{is_command}
 

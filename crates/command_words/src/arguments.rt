@@ -62,9 +62,7 @@ fn origin(words: &[Text]) -> Option<usize>
 /// There are so many components.
 pub fn arguments_fault(form: Arguments, components: usize, words: &[Text]) -> Option<usize>
     requires { components < 2 ^ 63 }
-    ensures {
-        Judges (arguments_begin form components) (arguments_end form components) words.now result
-    }
+    ensures { Judges (arguments_begin form components) (arguments_end form components) words.now result }
 {
     match form {
         Arguments::Between(low, high) => between(low, high, words),

@@ -123,9 +123,7 @@ fn repo_move(alloc: Global, flags: &[Text], words: &[Text]) -> Result<Command, A
 }
 
 fn repo_import(alloc: Global, flags: &[Text], words: &[Text]) -> Result<Command, AllocError>
-    ensures {
-        IfOk result (λ command. plain command ≡ repo_command repo.Import flags.now words.now)
-    }
+    ensures { IfOk result (λ command. plain command ≡ repo_command repo.Import flags.now words.now) }
 {
     Ok(Command::RepoImport {
         dry_run: switch_of(flags, "dry-run"),
@@ -138,9 +136,7 @@ fn repo_import(alloc: Global, flags: &[Text], words: &[Text]) -> Result<Command,
 }
 
 fn repo_create(alloc: Global, flags: &[Text], words: &[Text]) -> Result<Command, AllocError>
-    ensures {
-        IfOk result (λ command. plain command ≡ repo_command repo.Create flags.now words.now)
-    }
+    ensures { IfOk result (λ command. plain command ≡ repo_command repo.Create flags.now words.now) }
 {
     Ok(Command::RepoCreate {
         comment: text_of(alloc, flags, "comment")?,
@@ -212,9 +208,7 @@ fn origin_of(alloc: Global, words: &[Text]) -> Result<Origin, AllocError>
 }
 
 fn snapshot_pull(alloc: Global, flags: &[Text], words: &[Text]) -> Result<Command, AllocError>
-    ensures {
-        IfOk result (λ command. plain command ≡ snapshot_command snapshot.Pull flags.now words.now)
-    }
+    ensures { IfOk result (λ command. plain command ≡ snapshot_command snapshot.Pull flags.now words.now) }
 {
     Ok(Command::SnapshotPull {
         all_matches: switch_of(flags, "all-matches"),
@@ -299,10 +293,8 @@ fn words_to(alloc: Global, words: &[Text], n: usize) -> Result<Vec<Text>, AllocE
 }
 
 fn publish_snapshot(alloc: Global, flags: &[Text], words: &[Text]) -> Result<Command, AllocError>
-    ensures {
-        IfOk result (λ command. plain command
-            ≡ publish_command publish.Snapshot flags.now words.now)
-    }
+    ensures { IfOk result (λ command. plain command
+        ≡ publish_command publish.Snapshot flags.now words.now) }
 {
     let count = components_len(alloc, flags)?;
     Ok(Command::PublishSnapshot {
@@ -319,9 +311,7 @@ fn publish_snapshot(alloc: Global, flags: &[Text], words: &[Text]) -> Result<Com
 }
 
 fn publish_repo(alloc: Global, flags: &[Text], words: &[Text]) -> Result<Command, AllocError>
-    ensures {
-        IfOk result (λ command. plain command ≡ publish_command publish.Repo flags.now words.now)
-    }
+    ensures { IfOk result (λ command. plain command ≡ publish_command publish.Repo flags.now words.now) }
 {
     let count = components_len(alloc, flags)?;
     Ok(Command::PublishRepo {
@@ -338,9 +328,7 @@ fn publish_repo(alloc: Global, flags: &[Text], words: &[Text]) -> Result<Command
 }
 
 fn publish_switch(alloc: Global, flags: &[Text], words: &[Text]) -> Result<Command, AllocError>
-    ensures {
-        IfOk result (λ command. plain command ≡ publish_command publish.Switch flags.now words.now)
-    }
+    ensures { IfOk result (λ command. plain command ≡ publish_command publish.Switch flags.now words.now) }
 {
     let count = components_len(alloc, flags)?;
     let components = texts_of(alloc, flags, "component")?;

@@ -176,10 +176,8 @@ fn is_repeated(before: &[Text], name: &str) -> bool
 
 /// Whether the flag is one of the command's, in its form.
 fn is_known(alloc: Global, row: &Row, word: &str) -> Result<bool, AllocError>
-    ensures {
-        IfOk result (λ r.
-            r ≡ has_known_form (form_of (rule row.now).flags (flag_name word.now)) (flag_value word.now))
-    }
+    ensures { IfOk result (λ r.
+        r ≡ has_known_form (form_of (rule row.now).flags (flag_name word.now)) (flag_value word.now)) }
 {
     match form_of(row, flag_name(word)) {
         None => Ok(false),

@@ -33,9 +33,7 @@ fn read_piece(alloc: Global, piece: &Piece) -> Result<Command, WordFault>
 /// The commands that the parts of a list spell.
 fn read_pieces(alloc: Global, pieces: &[Piece]) -> Result<Vec<Command>, WordFault>
     requires { All (λ p. p.start + length p.words < 2 ^ 63) (map part pieces.now) }
-    ensures read {
-        IfOk result (λ commands. listed (map part pieces.now) ≡ Some (map plain commands.items))
-    }
+    ensures read { IfOk result (λ commands. listed (map part pieces.now) ≡ Some (map plain commands.items)) }
     ensures fault { IfErr result (IsAt (IsListFault (map part pieces.now))) }
 {
     let mut commands = Vec::new(alloc);
@@ -50,9 +48,7 @@ fn read_pieces(alloc: Global, pieces: &[Piece]) -> Result<Vec<Command>, WordFaul
 
 /// The commands of the list that these words are. They begin at index 2.
 pub fn read_list(alloc: Global, words: &[Text]) -> Result<Vec<Command>, WordFault>
-    ensures read {
-        IfOk result (λ commands. listed (cut 2 words.now) ≡ Some (map plain commands.items))
-    }
+    ensures read { IfOk result (λ commands. listed (cut 2 words.now) ≡ Some (map plain commands.items)) }
     ensures fault { IfErr result (IsAt (IsListFault (cut 2 words.now))) }
 {
     let pieces = cut_list(alloc, words)?;

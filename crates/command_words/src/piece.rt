@@ -18,10 +18,8 @@ pub struct Piece {
 
 /// The word without the comma at its end, where one is there.
 fn strip_comma(word: &str) -> Option<&str>
-    ensures {
-        MatchOption result (ends_with_comma word.now ≡ false)
-            (λ w. (ends_with_comma word.now ≡ true) × (w.now ≡ without_last word.now))
-    }
+    ensures { MatchOption result (ends_with_comma word.now ≡ false)
+        (λ w. (ends_with_comma word.now ≡ true) × (w.now ≡ without_last word.now)) }
 {
     word.strip_suffix(',')
 }
@@ -46,9 +44,7 @@ fn empty_piece(alloc: Global, start: u64) -> Piece
 
 /// Ends the open command. The next begins at this index.
 fn end_command(alloc: Global, cutter: &mut Cutter, next: u64) -> Result<(), AllocError>
-    ensures {
-        OnOk result (cutting cutter.new ≡ ended (cutting cutter.old) (part cutter.old.last) next)
-    }
+    ensures { OnOk result (cutting cutter.new ≡ ended (cutting cutter.old) (part cutter.old.last) next) }
 {
     let piece = mem::replace(&mut cutter.last, empty_piece(alloc, next));
     cutter.pieces.push(piece)?;
@@ -57,10 +53,8 @@ fn end_command(alloc: Global, cutter: &mut Cutter, next: u64) -> Result<(), Allo
 
 /// Puts a word behind those of the open command.
 fn add_word(alloc: Global, cutter: &mut Cutter, word: &str) -> Result<(), AllocError>
-    ensures {
-        OnOk result (cutting cutter.new
-            ≡ record { done = map part cutter.old.pieces.items; open_part = with_word (part cutter.old.last) word.now })
-    }
+    ensures { OnOk result (cutting cutter.new
+        ≡ record { done = map part cutter.old.pieces.items; open_part = with_word (part cutter.old.last) word.now }) }
 {
     cutter.last.words.push(Text::new(alloc, word)?)?;
     Ok(())

@@ -63,9 +63,7 @@ pub fn row_fault(alloc: Global, row: &Row, words: &[Text]) -> Result<Option<usiz
 
 /// The command of this row that the words after its verb spell.
 fn read_row(alloc: Global, row: &Row, words: &[Text]) -> Result<Command, WordFault>
-    ensures read {
-        IfOk result (λ command. row_spells (rule row.now) words.now ≡ Some (plain command))
-    }
+    ensures read { IfOk result (λ command. row_spells (rule row.now) words.now ≡ Some (plain command)) }
     ensures fault { IfErr result (IsAt (IsRowFault (rule row.now) words.now)) }
 {
     match row_fault(alloc, row, words)? {

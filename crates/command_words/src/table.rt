@@ -308,10 +308,8 @@ fn all_rows() -> &'static [Row]
 
 /// The first row with this group and this verb.
 fn find_among(rows: &'static [Row], group: &str, verb: &str) -> Option<&'static Row>
-    ensures {
-        option_copied result ≡ find (λ r. bytes_eq r.group.now group.now
-            && bytes_eq r.verb.now verb.now) rows.now
-    }
+    ensures { option_copied result ≡ find (λ r. bytes_eq r.group.now group.now
+        && bytes_eq r.verb.now verb.now) rows.now }
 {
     rows.iter()
         .find(|row| row.group == group && row.verb == verb)
