@@ -49,8 +49,12 @@ arguments_end Switched n words = nat_le (n + 1) (length words)
 -- the place of the first word with which the words before it don't begin, else that after the last
 -- word, where one is missing
 abbrev pub IsFirstFault : (Words → Bool) → (Words → Bool) → Words → ℕ → Type 0
-IsFirstFault begins ends words place = (place ≤ length words) × (begins (take place words) ≡ true) × (place < length words → begins (take (place + 1) words) ≡ false) × (place ≡ length words → ends words ≡ false)
+IsFirstFault begins ends words place =
+    (place ≤ length words) × (begins (take place words) ≡ true) ×
+        (place < length words → begins (take (place + 1) words) ≡ false) ×
+        (place ≡ length words → ends words ≡ false)
 
 -- nothing is wrong, or the first fault is at the place
 abbrev pub Judges : (Words → Bool) → (Words → Bool) → Words → Option ℕ → Type 0
-Judges begins ends words r = MatchOption r ((begins words ≡ true) × (ends words ≡ true)) (IsFirstFault begins ends words)
+Judges begins ends words r =
+    MatchOption r ((begins words ≡ true) × (ends words ≡ true)) (IsFirstFault begins ends words)

@@ -58,7 +58,15 @@ demonstration =
     ∷ snapshot_create (codes "demo-all") (Mirror (codes "demo"))
     ∷ snapshot_filter (Some true) no_follow (codes "demo-all") (codes "demo-some") (codes "pkg99" ∷ [])
     ∷ snapshot_pull None None None None no_follow (codes "demo-some") (codes "demo-all") (codes "demo-pulled") (codes "Name (% pkg1??)" ∷ [])
-    ∷ publish_snapshot (record { architectures = None; components = None; distribution = Some (codes "demo"); origin = None; label = None; suite = None; codename = None }) (codes "demo-all" ∷ []) (Some (codes "demo"))
+    ∷ publish_snapshot (record {
+        architectures = None;
+        components = None;
+        distribution = Some (codes "demo");
+        origin = None;
+        label = None;
+        suite = None;
+        codename = None
+    }) (codes "demo-all" ∷ []) (Some (codes "demo"))
     ∷ publish_switch None (codes "demo") (Some (codes "demo")) (codes "demo-pulled" ∷ [])
     ∷ publish_switch None (codes "demo") (Some (codes "demo")) (codes "demo-some" ∷ [])
     ∷ snapshot_drop (codes "demo-all")
@@ -73,7 +81,8 @@ is_from_to low high c = nat_le low c && nat_le c high
 abbrev pub is_demo_number : Word → Bool
 is_demo_number (a ∷ []) = is_from_to 50 57 a
 is_demo_number (a ∷ b ∷ []) = is_from_to 49 57 a && is_from_to 48 57 b
-is_demo_number (a ∷ b ∷ c ∷ []) = ((a == 49) && is_from_to 48 57 b && is_from_to 48 57 c) || ((a == 50) && (b == 48) && (c == 48))
+is_demo_number (a ∷ b ∷ c ∷ []) =
+    ((a == 49) && is_from_to 48 57 b && is_from_to 48 57 c) || ((a == 50) && (b == 48) && (c == 48))
 is_demo_number _ = false
 
 abbrev pub demo_commands : Words → Option (List PlainCommand)
@@ -82,7 +91,8 @@ demo_commands _ = None
 
 -- the words of a list, after `task run`
 abbrev pub after_task_run : Words → Option Words
-after_task_run (first ∷ second ∷ words) = if bytes_eq first (codes "task") && bytes_eq second (codes "run") then Some words else None
+after_task_run (first ∷ second ∷ words) =
+    if bytes_eq first (codes "task") && bytes_eq second (codes "run") then Some words else None
 after_task_run _ = None
 
 abbrev pub is_first : Word → Words → Bool
@@ -111,14 +121,18 @@ Begins reads front = (rest : Words) × (reads (front ++ rest) ≡ true)
 -- the index of the first of the words such that nothing readable begins with the words up to there,
 -- else the index after the last word
 abbrev pub IsLongestFront : (Words → Bool) → Words → ℕ → Type 0
-IsLongestFront reads words place = (place ≤ length words) × Begins reads (take place words) × (place < length words → Begins reads (take (place + 1) words) → ⊥)
+IsLongestFront reads words place =
+    (place ≤ length words) × Begins reads (take place words) ×
+        (place < length words → Begins reads (take (place + 1) words) → ⊥)
 
 abbrev pub is_readable : Words → Bool
 is_readable words = is_some (commands words)
 
 -- the place in a command of a list: the longest front of its words that can be the first of a command
 abbrev pub IsPlaceIn : Part → ℕ → Type 0
-IsPlaceIn p place = (spelled p.words ≡ None) × ((inner : ℕ) × (place ≡ p.start + inner) × IsLongestFront is_command p.words inner)
+IsPlaceIn p place =
+    (spelled p.words ≡ None) ×
+        ((inner : ℕ) × (place ≡ p.start + inner) × IsLongestFront is_command p.words inner)
 
 -- the same, where n commands stand before it: the 1,001st has the place of its first word
 abbrev pub IsPartFault : ℕ → Part → ℕ → Type 0
@@ -126,11 +140,15 @@ IsPartFault n p place = ((n ≡ 1000) × (place ≡ p.start)) ⊎ ((n < 1000) ×
 
 -- the place in the first command of a list that is at fault
 abbrev pub IsListFault : List Part → ℕ → Type 0
-IsListFault parts place = (front : List Part) × (p : Part) × (back : List Part) × (parts ≡ front ++ p ∷ back) × All (λ q. is_command q.words ≡ true) front × IsPartFault (length front) p place
+IsListFault parts place =
+    (front : List Part) × (p : Part) × (back : List Part) × (parts ≡ front ++ p ∷ back) ×
+        All (λ q. is_command q.words ≡ true) front × IsPartFault (length front) p place
 
 -- the usage place of words that spell no commands
 abbrev pub IsUsagePlace : Words → ℕ → Type 0
-IsUsagePlace words place = (commands words ≡ None) × MatchOption (after_task_run words) (IsLongestFront is_readable words place) (λ rest. IsListFault (cut 2 rest) place)
+IsUsagePlace words place =
+    (commands words ≡ None) ×
+        MatchOption (after_task_run words) (IsLongestFront is_readable words place) (λ rest. IsListFault (cut 2 rest) place)
 
 -- where the words after `demo` are at fault
 abbrev pub demo_place : Words → Option ℕ

@@ -31,7 +31,8 @@ flag_name word = before_first is_equals (undashed word)
 
 -- what stands after it, if one is there
 abbrev pub value_in : Word → Option Word
-value_in text = if nat_lt (position_or_len is_equals text) (length text) then Some (after_first is_equals text) else None
+value_in text =
+    if nat_lt (position_or_len is_equals text) (length text) then Some (after_first is_equals text) else None
 
 abbrev pub flag_value : Word → Option Word
 flag_value word = value_in (undashed word)
@@ -63,7 +64,7 @@ has_known_form (Some form) value = has_form form value
 abbrev pub has_name : Word → Word → Bool
 has_name name word = bytes_eq (flag_name word) name
 
--- a switch is true unless it says `false`
+-- a switch is true where it stands alone or says `true`
 abbrev pub switch_value : Option Word → Bool
 switch_value None = true
 switch_value (Some value) = bytes_eq value (codes "true")
@@ -74,17 +75,22 @@ sets name word = has_name name word && switch_value (flag_value word)
 
 -- the later one of `-latest` and `-no-remove` both set true
 abbrev pub excludes : Words → Word → Bool
-excludes before word = (sets (codes "latest") word && list_any (sets (codes "no-remove")) before) || (sets (codes "no-remove") word && list_any (sets (codes "latest")) before)
+excludes before word =
+    (sets (codes "latest") word && list_any (sets (codes "no-remove")) before) ||
+        (sets (codes "no-remove") word && list_any (sets (codes "latest")) before)
 
 -- whether a flag can stand after these: the command has it, in this form, it isn't repeated, and it
 -- doesn't exclude one of them
 unfoldable pub flag_stands : List FlagRule → Words → Word → Bool
-flag_stands rules before word = has_known_form (form_of rules (flag_name word)) (flag_value word) && not (list_any (has_name (flag_name word)) before) && not (excludes before word)
+flag_stands rules before word =
+    has_known_form (form_of rules (flag_name word)) (flag_value word) &&
+        not (list_any (has_name (flag_name word)) before) && not (excludes before word)
 
 -- each flag can stand after those before it
 abbrev pub flags_stand_after : List FlagRule → Words → Words → Bool
 flags_stand_after rules before [] = true
-flags_stand_after rules before (word ∷ words) = flag_stands rules before word && flags_stand_after rules (before ++ word ∷ []) words
+flags_stand_after rules before (word ∷ words) =
+    flag_stands rules before word && flags_stand_after rules (before ++ word ∷ []) words
 
 abbrev pub flags_stand : List FlagRule → Words → Bool
 flags_stand rules words = flags_stand_after rules [] words
@@ -109,4 +115,6 @@ texts_of name flags = option_map parts (text_of name flags)
 
 -- the longest front of the flags in which each can stand after those before it
 abbrev pub IsLongestStanding : List FlagRule → Words → ℕ → Type 0
-IsLongestStanding rules flags n = (n ≤ length flags) × (flags_stand rules (take n flags) ≡ true) × (n < length flags → flags_stand rules (take (n + 1) flags) ≡ false)
+IsLongestStanding rules flags n =
+    (n ≤ length flags) × (flags_stand rules (take n flags) ≡ true) ×
+        (n < length flags → flags_stand rules (take (n + 1) flags) ≡ false)

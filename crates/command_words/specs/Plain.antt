@@ -28,6 +28,7 @@ pub record PlainSettings : Type 0 where
   pub suite : Option Word
   pub codename : Option Word
 
+-- a command: its flags in the table's order, and its arguments
 pub data PlainCommand : Type 0 where
   mirror_create : (architectures : Option Words) (filter : Option Word) (filter_with_deps : Option Bool) (name archive distribution : Word) (components : Words) → PlainCommand
   mirror_update : (name : Word) → PlainCommand
@@ -67,11 +68,18 @@ pub data PlainCommand : Type 0 where
   db_cleanup : PlainCommand
 
 abbrev pub plain_follow : Follow → PlainFollow
-plain_follow f = record { architectures = option_map (λ v. v.items) f.architectures; recommends = f.recommends; suggests = f.suggests }
+plain_follow f =
+    record {
+        architectures = option_map (λ v. v.items) f.architectures;
+        recommends = f.recommends;
+        suggests = f.suggests
+    }
 
 -- the command as its clauses see it
 abbrev pub plain : Command → PlainCommand
-plain (c.MirrorCreate architectures filter deps name archive distribution components) = mirror_create (option_map (λ v. v.items) architectures) filter deps name archive distribution components.items
+plain (c.MirrorCreate architectures filter deps name archive distribution components) =
+    mirror_create (option_map (λ v. v.items) architectures) filter deps name archive distribution
+        components.items
 plain (c.MirrorUpdate name) = mirror_update name
 plain c.MirrorList = mirror_list
 plain (c.MirrorShow packages name) = mirror_show packages name
@@ -83,25 +91,53 @@ plain c.RepoList = repo_list
 plain (c.RepoShow packages name) = repo_show packages name
 plain (c.RepoEdit comment distribution component name) = repo_edit comment distribution component name
 plain (c.RepoRemove dry name queries) = repo_remove dry name queries.items
-plain (c.RepoCopy dry deps follow source destination queries) = repo_copy dry deps (plain_follow follow) source destination queries.items
-plain (c.RepoMove dry deps follow source destination queries) = repo_move dry deps (plain_follow follow) source destination queries.items
-plain (c.RepoImport dry deps follow mirror repo queries) = repo_import dry deps (plain_follow follow) mirror repo queries.items
+plain (c.RepoCopy dry deps follow source destination queries) =
+    repo_copy dry deps (plain_follow follow) source destination queries.items
+plain (c.RepoMove dry deps follow source destination queries) =
+    repo_move dry deps (plain_follow follow) source destination queries.items
+plain (c.RepoImport dry deps follow mirror repo queries) =
+    repo_import dry deps (plain_follow follow) mirror repo queries.items
 plain (c.RepoRename from to) = repo_rename from to
 plain (c.RepoDrop name) = repo_drop name
 plain (c.SnapshotCreate name origin) = snapshot_create name origin
 plain c.SnapshotList = snapshot_list
 plain (c.SnapshotShow packages name) = snapshot_show packages name
-plain (c.SnapshotFilter deps follow source destination queries) = snapshot_filter deps (plain_follow follow) source destination queries.items
+plain (c.SnapshotFilter deps follow source destination queries) =
+    snapshot_filter deps (plain_follow follow) source destination queries.items
 plain (c.SnapshotMerge latest no_remove destination sources) = snapshot_merge latest no_remove destination sources.items
-plain (c.SnapshotPull all dry no_deps no_remove follow name source destination queries) = snapshot_pull all dry no_deps no_remove (plain_follow follow) name source destination queries.items
+plain (c.SnapshotPull all dry no_deps no_remove follow name source destination queries) =
+    snapshot_pull all dry no_deps no_remove (plain_follow follow) name source destination queries.items
 plain (c.SnapshotSearch deps follow name query) = snapshot_search deps (plain_follow follow) name query
 plain (c.SnapshotRename from to) = snapshot_rename from to
 plain (c.SnapshotDrop name) = snapshot_drop name
-plain (c.PublishSnapshot architectures components distribution origin label suite codename sources prefix) = publish_snapshot (record { architectures = option_map (λ v. v.items) architectures; components = option_map (λ v. v.items) components; distribution = distribution; origin = origin; label = label; suite = suite; codename = codename }) sources.items prefix
-plain (c.PublishRepo architectures components distribution origin label suite codename sources prefix) = publish_repo (record { architectures = option_map (λ v. v.items) architectures; components = option_map (λ v. v.items) components; distribution = distribution; origin = origin; label = label; suite = suite; codename = codename }) sources.items prefix
+plain (c.PublishSnapshot architectures components distribution origin label suite codename sources prefix) =
+    publish_snapshot
+        (record {
+            architectures = option_map (λ v. v.items) architectures;
+            components = option_map (λ v. v.items) components;
+            distribution = distribution;
+            origin = origin;
+            label = label;
+            suite = suite;
+            codename = codename
+        })
+        sources.items prefix
+plain (c.PublishRepo architectures components distribution origin label suite codename sources prefix) =
+    publish_repo
+        (record {
+            architectures = option_map (λ v. v.items) architectures;
+            components = option_map (λ v. v.items) components;
+            distribution = distribution;
+            origin = origin;
+            label = label;
+            suite = suite;
+            codename = codename
+        })
+        sources.items prefix
 plain c.PublishList = publish_list
 plain (c.PublishShow distribution prefix) = publish_show distribution prefix
-plain (c.PublishSwitch components distribution prefix snapshots) = publish_switch (option_map (λ v. v.items) components) distribution prefix snapshots.items
+plain (c.PublishSwitch components distribution prefix snapshots) =
+    publish_switch (option_map (λ v. v.items) components) distribution prefix snapshots.items
 plain (c.PublishUpdate distribution prefix) = publish_update distribution prefix
 plain (c.PublishDrop distribution prefix) = publish_drop distribution prefix
 plain (c.PackageSearch query) = package_search query

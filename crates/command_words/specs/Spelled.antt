@@ -26,10 +26,24 @@ abbrev pub word_at : Words → ℕ → Word
 word_at words i = slice_index_or words i []
 
 abbrev pub follow_of : Words → PlainFollow
-follow_of flags = record { architectures = texts_of (codes "architectures") flags; recommends = switch_of (codes "dep-follow-recommends") flags; suggests = switch_of (codes "dep-follow-suggests") flags }
+follow_of flags =
+    record {
+        architectures = texts_of (codes "architectures") flags;
+        recommends = switch_of (codes "dep-follow-recommends") flags;
+        suggests = switch_of (codes "dep-follow-suggests") flags
+    }
 
 abbrev pub settings_of : Words → PlainSettings
-settings_of flags = record { architectures = texts_of (codes "architectures") flags; components = texts_of (codes "component") flags; distribution = text_of (codes "distribution") flags; origin = text_of (codes "origin") flags; label = text_of (codes "label") flags; suite = text_of (codes "suite") flags; codename = text_of (codes "codename") flags }
+settings_of flags =
+    record {
+        architectures = texts_of (codes "architectures") flags;
+        components = texts_of (codes "component") flags;
+        distribution = text_of (codes "distribution") flags;
+        origin = text_of (codes "origin") flags;
+        label = text_of (codes "label") flags;
+        suite = text_of (codes "suite") flags;
+        codename = text_of (codes "codename") flags
+    }
 
 -- a publication has the components of `-component`, else one
 abbrev pub count_or_one : Option Words → ℕ
@@ -40,11 +54,17 @@ abbrev pub components_len : Words → ℕ
 components_len flags = count_or_one (texts_of (codes "component") flags)
 
 abbrev pub origin_of : Words → Origin
-origin_of words = if bytes_eq (word_at words 1) (codes "empty") then Empty else if bytes_eq (word_at words 2) (codes "mirror") then Mirror (word_at words 3) else Repo (word_at words 3)
+origin_of words =
+    if bytes_eq (word_at words 1) (codes "empty") then Empty
+    else if bytes_eq (word_at words 2) (codes "mirror") then Mirror (word_at words 3)
+    else Repo (word_at words 3)
 
 -- each command, of its flags and its arguments
 abbrev pub mirror_command : MirrorVerb → Words → Words → PlainCommand
-mirror_command m.Create flags words = mirror_create (texts_of (codes "architectures") flags) (text_of (codes "filter") flags) (switch_of (codes "filter-with-deps") flags) (word_at words 0) (word_at words 1) (word_at words 2) (drop 3 words)
+mirror_command m.Create flags words =
+    mirror_create (texts_of (codes "architectures") flags) (text_of (codes "filter") flags)
+        (switch_of (codes "filter-with-deps") flags) (word_at words 0) (word_at words 1) (word_at words 2)
+        (drop 3 words)
 mirror_command m.Update flags words = mirror_update (word_at words 0)
 mirror_command m.List flags words = mirror_list
 mirror_command m.Show flags words = mirror_show (switch_of (codes "with-packages") flags) (word_at words 0)
@@ -52,15 +72,25 @@ mirror_command m.Rename flags words = mirror_rename (word_at words 0) (word_at w
 mirror_command m.Drop flags words = mirror_drop (word_at words 0)
 
 abbrev pub repo_command : RepoVerb → Words → Words → PlainCommand
-repo_command r.Create flags words = repo_create (text_of (codes "comment") flags) (text_of (codes "distribution") flags) (text_of (codes "component") flags) (word_at words 0)
+repo_command r.Create flags words =
+    repo_create (text_of (codes "comment") flags) (text_of (codes "distribution") flags)
+        (text_of (codes "component") flags) (word_at words 0)
 repo_command r.Add flags words = repo_add (word_at words 0) (word_at words 1)
 repo_command r.List flags words = repo_list
 repo_command r.Show flags words = repo_show (switch_of (codes "with-packages") flags) (word_at words 0)
-repo_command r.Edit flags words = repo_edit (text_of (codes "comment") flags) (text_of (codes "distribution") flags) (text_of (codes "component") flags) (word_at words 0)
+repo_command r.Edit flags words =
+    repo_edit (text_of (codes "comment") flags) (text_of (codes "distribution") flags)
+        (text_of (codes "component") flags) (word_at words 0)
 repo_command r.Remove flags words = repo_remove (switch_of (codes "dry-run") flags) (word_at words 0) (drop 1 words)
-repo_command r.Copy flags words = repo_copy (switch_of (codes "dry-run") flags) (switch_of (codes "with-deps") flags) (follow_of flags) (word_at words 0) (word_at words 1) (drop 2 words)
-repo_command r.Move flags words = repo_move (switch_of (codes "dry-run") flags) (switch_of (codes "with-deps") flags) (follow_of flags) (word_at words 0) (word_at words 1) (drop 2 words)
-repo_command r.Import flags words = repo_import (switch_of (codes "dry-run") flags) (switch_of (codes "with-deps") flags) (follow_of flags) (word_at words 0) (word_at words 1) (drop 2 words)
+repo_command r.Copy flags words =
+    repo_copy (switch_of (codes "dry-run") flags) (switch_of (codes "with-deps") flags) (follow_of flags)
+        (word_at words 0) (word_at words 1) (drop 2 words)
+repo_command r.Move flags words =
+    repo_move (switch_of (codes "dry-run") flags) (switch_of (codes "with-deps") flags) (follow_of flags)
+        (word_at words 0) (word_at words 1) (drop 2 words)
+repo_command r.Import flags words =
+    repo_import (switch_of (codes "dry-run") flags) (switch_of (codes "with-deps") flags) (follow_of flags)
+        (word_at words 0) (word_at words 1) (drop 2 words)
 repo_command r.Rename flags words = repo_rename (word_at words 0) (word_at words 1)
 repo_command r.Drop flags words = repo_drop (word_at words 0)
 
@@ -68,20 +98,34 @@ abbrev pub snapshot_command : SnapshotVerb → Words → Words → PlainCommand
 snapshot_command s.Create flags words = snapshot_create (word_at words 0) (origin_of words)
 snapshot_command s.List flags words = snapshot_list
 snapshot_command s.Show flags words = snapshot_show (switch_of (codes "with-packages") flags) (word_at words 0)
-snapshot_command s.Filter flags words = snapshot_filter (switch_of (codes "with-deps") flags) (follow_of flags) (word_at words 0) (word_at words 1) (drop 2 words)
-snapshot_command s.Merge flags words = snapshot_merge (switch_of (codes "latest") flags) (switch_of (codes "no-remove") flags) (word_at words 0) (drop 1 words)
-snapshot_command s.Pull flags words = snapshot_pull (switch_of (codes "all-matches") flags) (switch_of (codes "dry-run") flags) (switch_of (codes "no-deps") flags) (switch_of (codes "no-remove") flags) (follow_of flags) (word_at words 0) (word_at words 1) (word_at words 2) (drop 3 words)
-snapshot_command s.Search flags words = snapshot_search (switch_of (codes "with-deps") flags) (follow_of flags) (word_at words 0) (word_at words 1)
+snapshot_command s.Filter flags words =
+    snapshot_filter (switch_of (codes "with-deps") flags) (follow_of flags) (word_at words 0) (word_at words 1)
+        (drop 2 words)
+snapshot_command s.Merge flags words =
+    snapshot_merge (switch_of (codes "latest") flags) (switch_of (codes "no-remove") flags) (word_at words 0)
+        (drop 1 words)
+snapshot_command s.Pull flags words =
+    snapshot_pull (switch_of (codes "all-matches") flags) (switch_of (codes "dry-run") flags)
+        (switch_of (codes "no-deps") flags) (switch_of (codes "no-remove") flags) (follow_of flags)
+        (word_at words 0) (word_at words 1) (word_at words 2) (drop 3 words)
+snapshot_command s.Search flags words =
+    snapshot_search (switch_of (codes "with-deps") flags) (follow_of flags) (word_at words 0) (word_at words 1)
 snapshot_command s.Rename flags words = snapshot_rename (word_at words 0) (word_at words 1)
 snapshot_command s.Drop flags words = snapshot_drop (word_at words 0)
 
 -- a switch to n snapshots has a prefix exactly where it has n + 2 arguments
 abbrev pub switch_command : Option Words → ℕ → Words → PlainCommand
-switch_command components n words = if length words == n + 2 then publish_switch components (word_at words 0) (slice_get words 1) (drop 2 words) else publish_switch components (word_at words 0) None (drop 1 words)
+switch_command components n words =
+    if length words == n + 2 then publish_switch components (word_at words 0) (slice_get words 1)
+        (drop 2 words) else publish_switch components (word_at words 0) None (drop 1 words)
 
 abbrev pub publish_command : PublishVerb → Words → Words → PlainCommand
-publish_command p.Snapshot flags words = publish_snapshot (settings_of flags) (take (components_len flags) words) (slice_get words (components_len flags))
-publish_command p.Repo flags words = publish_repo (settings_of flags) (take (components_len flags) words) (slice_get words (components_len flags))
+publish_command p.Snapshot flags words =
+    publish_snapshot (settings_of flags) (take (components_len flags) words)
+        (slice_get words (components_len flags))
+publish_command p.Repo flags words =
+    publish_repo (settings_of flags) (take (components_len flags) words)
+        (slice_get words (components_len flags))
 publish_command p.List flags words = publish_list
 publish_command p.Show flags words = publish_show (word_at words 0) (slice_get words 1)
 publish_command p.Switch flags words = switch_command (texts_of (codes "component") flags) (components_len flags) words
@@ -118,13 +162,17 @@ arguments_of words = drop (mark_len (after_flags words)) (after_flags words)
 -- whether the words after the verb can be the first of such a command, whether none is missing, and
 -- which command they are
 unfoldable pub row_begins : RowRule → Words → Bool
-row_begins row words = flags_stand row.flags (flags_of words) && arguments_begin row.arguments (components_len (flags_of words)) (arguments_of words)
+row_begins row words =
+    flags_stand row.flags (flags_of words) && arguments_begin row.arguments (components_len (flags_of words))
+        (arguments_of words)
 
 unfoldable pub row_ends : RowRule → Words → Bool
 row_ends row words = arguments_end row.arguments (components_len (flags_of words)) (arguments_of words)
 
 abbrev pub row_spells : RowRule → Words → Option PlainCommand
-row_spells row words = if row_begins row words && row_ends row words then Some (command_of row.kind (flags_of words) (arguments_of words)) else None
+row_spells row words =
+    if row_begins row words && row_ends row words then Some
+        (command_of row.kind (flags_of words) (arguments_of words)) else None
 
 abbrev pub spelled_by : Option RowRule → Words → Option PlainCommand
 spelled_by None words = None

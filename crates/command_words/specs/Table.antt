@@ -38,47 +38,72 @@ text name = record { name = name; form = Text }
 abbrev pub texts : Word → FlagRule
 texts name = record { name = name; form = Texts }
 
+-- which dependencies are followed, and for which architectures
+abbrev follow : List FlagRule
+follow = texts (codes "architectures") ∷ switch (codes "dep-follow-recommends") ∷ switch (codes "dep-follow-suggests") ∷ []
+
+-- the flags of a repository
+abbrev local : List FlagRule
+local = text (codes "comment") ∷ text (codes "distribution") ∷ text (codes "component") ∷ []
+
+-- the flags of a new publication
+abbrev settings : List FlagRule
+settings =
+    texts (codes "architectures") ∷ texts (codes "component") ∷ text (codes "distribution") ∷ text (codes "origin")
+    ∷ text (codes "label") ∷ text (codes "suite") ∷ text (codes "codename") ∷ []
+
 abbrev pub row : Word → Word → List FlagRule → Arguments → Kind → RowRule
 row group verb flags arguments kind = record { group = group; verb = verb; flags = flags; arguments = arguments; kind = kind }
 
 unfoldable pub table : List RowRule
 table =
-    row (codes "mirror") (codes "create") (texts (codes "architectures") ∷ text (codes "filter") ∷ switch (codes "filter-with-deps") ∷ []) (arguments.AtLeast 3) (Mirror mirror.Create)
-    ∷ row (codes "mirror") (codes "update") ([]) (arguments.Between 1 1) (Mirror mirror.Update)
-    ∷ row (codes "mirror") (codes "list") ([]) (arguments.Between 0 0) (Mirror mirror.List)
-    ∷ row (codes "mirror") (codes "show") (switch (codes "with-packages") ∷ []) (arguments.Between 1 1) (Mirror mirror.Show)
-    ∷ row (codes "mirror") (codes "rename") ([]) (arguments.Between 2 2) (Mirror mirror.Rename)
-    ∷ row (codes "mirror") (codes "drop") ([]) (arguments.Between 1 1) (Mirror mirror.Drop)
-    ∷ row (codes "repo") (codes "create") (text (codes "comment") ∷ text (codes "distribution") ∷ text (codes "component") ∷ []) (arguments.Between 1 1) (Repo repo.Create)
-    ∷ row (codes "repo") (codes "add") ([]) (arguments.Between 2 2) (Repo repo.Add)
-    ∷ row (codes "repo") (codes "list") ([]) (arguments.Between 0 0) (Repo repo.List)
+    row (codes "mirror") (codes "create")
+        (texts (codes "architectures") ∷ text (codes "filter") ∷ switch (codes "filter-with-deps") ∷ []) (arguments.AtLeast 3) (Mirror mirror.Create)
+    ∷ row (codes "mirror") (codes "update") [] (arguments.Between 1 1) (Mirror mirror.Update)
+    ∷ row (codes "mirror") (codes "list") [] (arguments.Between 0 0) (Mirror mirror.List)
+    ∷ row (codes "mirror") (codes "show")
+        (switch (codes "with-packages") ∷ []) (arguments.Between 1 1) (Mirror mirror.Show)
+    ∷ row (codes "mirror") (codes "rename") [] (arguments.Between 2 2) (Mirror mirror.Rename)
+    ∷ row (codes "mirror") (codes "drop") [] (arguments.Between 1 1) (Mirror mirror.Drop)
+    ∷ row (codes "repo") (codes "create") local (arguments.Between 1 1) (Repo repo.Create)
+    ∷ row (codes "repo") (codes "add") [] (arguments.Between 2 2) (Repo repo.Add)
+    ∷ row (codes "repo") (codes "list") [] (arguments.Between 0 0) (Repo repo.List)
     ∷ row (codes "repo") (codes "show") (switch (codes "with-packages") ∷ []) (arguments.Between 1 1) (Repo repo.Show)
-    ∷ row (codes "repo") (codes "edit") (text (codes "comment") ∷ text (codes "distribution") ∷ text (codes "component") ∷ []) (arguments.Between 1 1) (Repo repo.Edit)
+    ∷ row (codes "repo") (codes "edit") local (arguments.Between 1 1) (Repo repo.Edit)
     ∷ row (codes "repo") (codes "remove") (switch (codes "dry-run") ∷ []) (arguments.AtLeast 2) (Repo repo.Remove)
-    ∷ row (codes "repo") (codes "copy") (switch (codes "dry-run") ∷ switch (codes "with-deps") ∷ texts (codes "architectures") ∷ switch (codes "dep-follow-recommends") ∷ switch (codes "dep-follow-suggests") ∷ []) (arguments.Apart) (Repo repo.Copy)
-    ∷ row (codes "repo") (codes "move") (switch (codes "dry-run") ∷ switch (codes "with-deps") ∷ texts (codes "architectures") ∷ switch (codes "dep-follow-recommends") ∷ switch (codes "dep-follow-suggests") ∷ []) (arguments.Apart) (Repo repo.Move)
-    ∷ row (codes "repo") (codes "import") (switch (codes "dry-run") ∷ switch (codes "with-deps") ∷ texts (codes "architectures") ∷ switch (codes "dep-follow-recommends") ∷ switch (codes "dep-follow-suggests") ∷ []) (arguments.AtLeast 3) (Repo repo.Import)
-    ∷ row (codes "repo") (codes "rename") ([]) (arguments.Between 2 2) (Repo repo.Rename)
-    ∷ row (codes "repo") (codes "drop") ([]) (arguments.Between 1 1) (Repo repo.Drop)
-    ∷ row (codes "snapshot") (codes "create") ([]) (arguments.Origin) (Snapshot snapshot.Create)
-    ∷ row (codes "snapshot") (codes "list") ([]) (arguments.Between 0 0) (Snapshot snapshot.List)
-    ∷ row (codes "snapshot") (codes "show") (switch (codes "with-packages") ∷ []) (arguments.Between 1 1) (Snapshot snapshot.Show)
-    ∷ row (codes "snapshot") (codes "filter") (switch (codes "with-deps") ∷ texts (codes "architectures") ∷ switch (codes "dep-follow-recommends") ∷ switch (codes "dep-follow-suggests") ∷ []) (arguments.AtLeast 3) (Snapshot snapshot.Filter)
-    ∷ row (codes "snapshot") (codes "merge") (switch (codes "latest") ∷ switch (codes "no-remove") ∷ []) (arguments.AtLeast 2) (Snapshot snapshot.Merge)
-    ∷ row (codes "snapshot") (codes "pull") (switch (codes "all-matches") ∷ switch (codes "dry-run") ∷ switch (codes "no-deps") ∷ switch (codes "no-remove") ∷ texts (codes "architectures") ∷ switch (codes "dep-follow-recommends") ∷ switch (codes "dep-follow-suggests") ∷ []) (arguments.AtLeast 4) (Snapshot snapshot.Pull)
-    ∷ row (codes "snapshot") (codes "search") (switch (codes "with-deps") ∷ texts (codes "architectures") ∷ switch (codes "dep-follow-recommends") ∷ switch (codes "dep-follow-suggests") ∷ []) (arguments.Between 2 2) (Snapshot snapshot.Search)
-    ∷ row (codes "snapshot") (codes "rename") ([]) (arguments.Between 2 2) (Snapshot snapshot.Rename)
-    ∷ row (codes "snapshot") (codes "drop") ([]) (arguments.Between 1 1) (Snapshot snapshot.Drop)
-    ∷ row (codes "publish") (codes "snapshot") (texts (codes "architectures") ∷ texts (codes "component") ∷ text (codes "distribution") ∷ text (codes "origin") ∷ text (codes "label") ∷ text (codes "suite") ∷ text (codes "codename") ∷ []) (arguments.Sources) (Publish publish.Snapshot)
-    ∷ row (codes "publish") (codes "repo") (texts (codes "architectures") ∷ texts (codes "component") ∷ text (codes "distribution") ∷ text (codes "origin") ∷ text (codes "label") ∷ text (codes "suite") ∷ text (codes "codename") ∷ []) (arguments.Sources) (Publish publish.Repo)
-    ∷ row (codes "publish") (codes "list") ([]) (arguments.Between 0 0) (Publish publish.List)
-    ∷ row (codes "publish") (codes "show") ([]) (arguments.Between 1 2) (Publish publish.Show)
-    ∷ row (codes "publish") (codes "switch") (texts (codes "component") ∷ []) (arguments.Switched) (Publish publish.Switch)
-    ∷ row (codes "publish") (codes "update") ([]) (arguments.Between 1 2) (Publish publish.Update)
-    ∷ row (codes "publish") (codes "drop") ([]) (arguments.Between 1 2) (Publish publish.Drop)
-    ∷ row (codes "package") (codes "search") ([]) (arguments.Between 1 1) (Other other.Search)
-    ∷ row (codes "package") (codes "show") ([]) (arguments.Between 1 1) (Other other.Show)
-    ∷ row (codes "db") (codes "cleanup") ([]) (arguments.Between 0 0) (Other other.Cleanup)
+    ∷ row (codes "repo") (codes "copy")
+        (switch (codes "dry-run") ∷ switch (codes "with-deps") ∷ follow) arguments.Apart (Repo repo.Copy)
+    ∷ row (codes "repo") (codes "move")
+        (switch (codes "dry-run") ∷ switch (codes "with-deps") ∷ follow) arguments.Apart (Repo repo.Move)
+    ∷ row (codes "repo") (codes "import")
+        (switch (codes "dry-run") ∷ switch (codes "with-deps") ∷ follow) (arguments.AtLeast 3) (Repo repo.Import)
+    ∷ row (codes "repo") (codes "rename") [] (arguments.Between 2 2) (Repo repo.Rename)
+    ∷ row (codes "repo") (codes "drop") [] (arguments.Between 1 1) (Repo repo.Drop)
+    ∷ row (codes "snapshot") (codes "create") [] arguments.Origin (Snapshot snapshot.Create)
+    ∷ row (codes "snapshot") (codes "list") [] (arguments.Between 0 0) (Snapshot snapshot.List)
+    ∷ row (codes "snapshot") (codes "show")
+        (switch (codes "with-packages") ∷ []) (arguments.Between 1 1) (Snapshot snapshot.Show)
+    ∷ row (codes "snapshot") (codes "filter")
+        (switch (codes "with-deps") ∷ follow) (arguments.AtLeast 3) (Snapshot snapshot.Filter)
+    ∷ row (codes "snapshot") (codes "merge")
+        (switch (codes "latest") ∷ switch (codes "no-remove") ∷ []) (arguments.AtLeast 2) (Snapshot snapshot.Merge)
+    ∷ row (codes "snapshot") (codes "pull")
+        (switch (codes "all-matches") ∷ switch (codes "dry-run") ∷ switch (codes "no-deps") ∷ switch (codes "no-remove") ∷ follow) (arguments.AtLeast 4) (Snapshot snapshot.Pull)
+    ∷ row (codes "snapshot") (codes "search")
+        (switch (codes "with-deps") ∷ follow) (arguments.Between 2 2) (Snapshot snapshot.Search)
+    ∷ row (codes "snapshot") (codes "rename") [] (arguments.Between 2 2) (Snapshot snapshot.Rename)
+    ∷ row (codes "snapshot") (codes "drop") [] (arguments.Between 1 1) (Snapshot snapshot.Drop)
+    ∷ row (codes "publish") (codes "snapshot") settings arguments.Sources (Publish publish.Snapshot)
+    ∷ row (codes "publish") (codes "repo") settings arguments.Sources (Publish publish.Repo)
+    ∷ row (codes "publish") (codes "list") [] (arguments.Between 0 0) (Publish publish.List)
+    ∷ row (codes "publish") (codes "show") [] (arguments.Between 1 2) (Publish publish.Show)
+    ∷ row (codes "publish") (codes "switch")
+        (texts (codes "component") ∷ []) arguments.Switched (Publish publish.Switch)
+    ∷ row (codes "publish") (codes "update") [] (arguments.Between 1 2) (Publish publish.Update)
+    ∷ row (codes "publish") (codes "drop") [] (arguments.Between 1 2) (Publish publish.Drop)
+    ∷ row (codes "package") (codes "search") [] (arguments.Between 1 1) (Other other.Search)
+    ∷ row (codes "package") (codes "show") [] (arguments.Between 1 1) (Other other.Show)
+    ∷ row (codes "db") (codes "cleanup") [] (arguments.Between 0 0) (Other other.Cleanup)
     ∷ []
 
 abbrev pub has_key : Word → Word → RowRule → Bool

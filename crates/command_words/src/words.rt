@@ -40,8 +40,8 @@ impl Words {
         Ok(())
     }
 
-    /// The words as a slice.
-    pub(crate) fn as_slice(&self) -> &[Text]
+    /// The words, in their order.
+    pub fn as_slice(&self) -> &[Text]
         ensures { result.now ≡ self.now }
     {
         self.words.as_slice()
