@@ -51,8 +51,8 @@ arguments_end Switched n words = nat_le (n + 1) (length words)
 abbrev pub IsFirstFault : (Words → Bool) → (Words → Bool) → Words → ℕ → Type 0
 IsFirstFault begins ends words place =
     (place ≤ length words) × (begins (take place words) ≡ true) ×
-        (place < length words → begins (take (place + 1) words) ≡ false) ×
-        (place ≡ length words → ends words ≡ false)
+    (place < length words → begins (take (place + 1) words) ≡ false) ×
+    (place ≡ length words → ends words ≡ false)
 
 -- nothing is wrong, or the first fault is at the place
 abbrev pub Judges : (Words → Bool) → (Words → Bool) → Words → Option ℕ → Type 0

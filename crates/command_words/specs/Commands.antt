@@ -59,13 +59,13 @@ demonstration =
     ∷ snapshot_filter (Some true) no_follow (codes "demo-all") (codes "demo-some") (codes "pkg99" ∷ [])
     ∷ snapshot_pull None None None None no_follow (codes "demo-some") (codes "demo-all") (codes "demo-pulled") (codes "Name (% pkg1??)" ∷ [])
     ∷ publish_snapshot (record {
-        architectures = None;
-        components = None;
-        distribution = Some (codes "demo");
-        origin = None;
-        label = None;
-        suite = None;
-        codename = None
+      architectures = None;
+      components = None;
+      distribution = Some (codes "demo");
+      origin = None;
+      label = None;
+      suite = None;
+      codename = None;
     }) (codes "demo-all" ∷ []) (Some (codes "demo"))
     ∷ publish_switch None (codes "demo") (Some (codes "demo")) (codes "demo-pulled" ∷ [])
     ∷ publish_switch None (codes "demo") (Some (codes "demo")) (codes "demo-some" ∷ [])
@@ -123,7 +123,7 @@ Begins reads front = (rest : Words) × (reads (front ++ rest) ≡ true)
 abbrev pub IsLongestFront : (Words → Bool) → Words → ℕ → Type 0
 IsLongestFront reads words place =
     (place ≤ length words) × Begins reads (take place words) ×
-        (place < length words → Begins reads (take (place + 1) words) → ⊥)
+    (place < length words → Begins reads (take (place + 1) words) → ⊥)
 
 abbrev pub is_readable : Words → Bool
 is_readable words = is_some (commands words)
@@ -132,7 +132,7 @@ is_readable words = is_some (commands words)
 abbrev pub IsPlaceIn : Part → ℕ → Type 0
 IsPlaceIn p place =
     (spelled p.words ≡ None) ×
-        ((inner : ℕ) × (place ≡ p.start + inner) × IsLongestFront is_command p.words inner)
+    ((inner : ℕ) × (place ≡ p.start + inner) × IsLongestFront is_command p.words inner)
 
 -- the same, where n commands stand before it: the 1,001st has the place of its first word
 abbrev pub IsPartFault : ℕ → Part → ℕ → Type 0
@@ -142,13 +142,13 @@ IsPartFault n p place = ((n ≡ 1000) × (place ≡ p.start)) ⊎ ((n < 1000) ×
 abbrev pub IsListFault : List Part → ℕ → Type 0
 IsListFault parts place =
     (front : List Part) × (p : Part) × (back : List Part) × (parts ≡ front ++ p ∷ back) ×
-        All (λ q. is_command q.words ≡ true) front × IsPartFault (length front) p place
+    All (λ q. is_command q.words ≡ true) front × IsPartFault (length front) p place
 
 -- the usage place of words that spell no commands
 abbrev pub IsUsagePlace : Words → ℕ → Type 0
 IsUsagePlace words place =
     (commands words ≡ None) ×
-        MatchOption (after_task_run words) (IsLongestFront is_readable words place) (λ rest. IsListFault (cut 2 rest) place)
+    MatchOption (after_task_run words) (IsLongestFront is_readable words place) (λ rest. IsListFault (cut 2 rest) place)
 
 -- where the words after `demo` are at fault
 abbrev pub demo_place : Words → Option ℕ

@@ -77,14 +77,14 @@ sets name word = has_name name word && switch_value (flag_value word)
 abbrev pub excludes : Words → Word → Bool
 excludes before word =
     (sets (codes "latest") word && list_any (sets (codes "no-remove")) before) ||
-        (sets (codes "no-remove") word && list_any (sets (codes "latest")) before)
+    (sets (codes "no-remove") word && list_any (sets (codes "latest")) before)
 
 -- whether a flag can stand after these: the command has it, in this form, it isn't repeated, and it
 -- doesn't exclude one of them
 unfoldable pub flag_stands : List FlagRule → Words → Word → Bool
 flag_stands rules before word =
     has_known_form (form_of rules (flag_name word)) (flag_value word) &&
-        not (list_any (has_name (flag_name word)) before) && not (excludes before word)
+    not (list_any (has_name (flag_name word)) before) && not (excludes before word)
 
 -- each flag can stand after those before it
 abbrev pub flags_stand_after : List FlagRule → Words → Words → Bool
@@ -117,4 +117,4 @@ texts_of name flags = option_map parts (text_of name flags)
 abbrev pub IsLongestStanding : List FlagRule → Words → ℕ → Type 0
 IsLongestStanding rules flags n =
     (n ≤ length flags) × (flags_stand rules (take n flags) ≡ true) ×
-        (n < length flags → flags_stand rules (take (n + 1) flags) ≡ false)
+    (n < length flags → flags_stand rules (take (n + 1) flags) ≡ false)

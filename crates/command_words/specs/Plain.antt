@@ -70,16 +70,16 @@ pub data PlainCommand : Type 0 where
 abbrev pub plain_follow : Follow → PlainFollow
 plain_follow f =
     record {
-        architectures = option_map (λ v. v.items) f.architectures;
-        recommends = f.recommends;
-        suggests = f.suggests
+      architectures = option_map (λ v. v.items) f.architectures;
+      recommends = f.recommends;
+      suggests = f.suggests;
     }
 
 -- the command as its clauses see it
 abbrev pub plain : Command → PlainCommand
 plain (c.MirrorCreate architectures filter deps name archive distribution components) =
     mirror_create (option_map (λ v. v.items) architectures) filter deps name archive distribution
-        components.items
+    components.items
 plain (c.MirrorUpdate name) = mirror_update name
 plain c.MirrorList = mirror_list
 plain (c.MirrorShow packages name) = mirror_show packages name
@@ -112,28 +112,28 @@ plain (c.SnapshotRename from to) = snapshot_rename from to
 plain (c.SnapshotDrop name) = snapshot_drop name
 plain (c.PublishSnapshot architectures components distribution origin label suite codename sources prefix) =
     publish_snapshot
-        (record {
-            architectures = option_map (λ v. v.items) architectures;
-            components = option_map (λ v. v.items) components;
-            distribution = distribution;
-            origin = origin;
-            label = label;
-            suite = suite;
-            codename = codename
-        })
-        sources.items prefix
+    (record {
+      architectures = option_map (λ v. v.items) architectures;
+      components = option_map (λ v. v.items) components;
+      distribution = distribution;
+      origin = origin;
+      label = label;
+      suite = suite;
+      codename = codename;
+    })
+    sources.items prefix
 plain (c.PublishRepo architectures components distribution origin label suite codename sources prefix) =
     publish_repo
-        (record {
-            architectures = option_map (λ v. v.items) architectures;
-            components = option_map (λ v. v.items) components;
-            distribution = distribution;
-            origin = origin;
-            label = label;
-            suite = suite;
-            codename = codename
-        })
-        sources.items prefix
+    (record {
+      architectures = option_map (λ v. v.items) architectures;
+      components = option_map (λ v. v.items) components;
+      distribution = distribution;
+      origin = origin;
+      label = label;
+      suite = suite;
+      codename = codename;
+    })
+    sources.items prefix
 plain c.PublishList = publish_list
 plain (c.PublishShow distribution prefix) = publish_show distribution prefix
 plain (c.PublishSwitch components distribution prefix snapshots) =

@@ -28,21 +28,21 @@ word_at words i = slice_index_or words i []
 abbrev pub follow_of : Words → PlainFollow
 follow_of flags =
     record {
-        architectures = texts_of (codes "architectures") flags;
-        recommends = switch_of (codes "dep-follow-recommends") flags;
-        suggests = switch_of (codes "dep-follow-suggests") flags
+      architectures = texts_of (codes "architectures") flags;
+      recommends = switch_of (codes "dep-follow-recommends") flags;
+      suggests = switch_of (codes "dep-follow-suggests") flags;
     }
 
 abbrev pub settings_of : Words → PlainSettings
 settings_of flags =
     record {
-        architectures = texts_of (codes "architectures") flags;
-        components = texts_of (codes "component") flags;
-        distribution = text_of (codes "distribution") flags;
-        origin = text_of (codes "origin") flags;
-        label = text_of (codes "label") flags;
-        suite = text_of (codes "suite") flags;
-        codename = text_of (codes "codename") flags
+      architectures = texts_of (codes "architectures") flags;
+      components = texts_of (codes "component") flags;
+      distribution = text_of (codes "distribution") flags;
+      origin = text_of (codes "origin") flags;
+      label = text_of (codes "label") flags;
+      suite = text_of (codes "suite") flags;
+      codename = text_of (codes "codename") flags;
     }
 
 -- a publication has the components of `-component`, else one
@@ -63,8 +63,8 @@ origin_of words =
 abbrev pub mirror_command : MirrorVerb → Words → Words → PlainCommand
 mirror_command m.Create flags words =
     mirror_create (texts_of (codes "architectures") flags) (text_of (codes "filter") flags)
-        (switch_of (codes "filter-with-deps") flags) (word_at words 0) (word_at words 1) (word_at words 2)
-        (drop 3 words)
+    (switch_of (codes "filter-with-deps") flags) (word_at words 0) (word_at words 1) (word_at words 2)
+    (drop 3 words)
 mirror_command m.Update flags words = mirror_update (word_at words 0)
 mirror_command m.List flags words = mirror_list
 mirror_command m.Show flags words = mirror_show (switch_of (codes "with-packages") flags) (word_at words 0)
@@ -74,23 +74,23 @@ mirror_command m.Drop flags words = mirror_drop (word_at words 0)
 abbrev pub repo_command : RepoVerb → Words → Words → PlainCommand
 repo_command r.Create flags words =
     repo_create (text_of (codes "comment") flags) (text_of (codes "distribution") flags)
-        (text_of (codes "component") flags) (word_at words 0)
+    (text_of (codes "component") flags) (word_at words 0)
 repo_command r.Add flags words = repo_add (word_at words 0) (word_at words 1)
 repo_command r.List flags words = repo_list
 repo_command r.Show flags words = repo_show (switch_of (codes "with-packages") flags) (word_at words 0)
 repo_command r.Edit flags words =
     repo_edit (text_of (codes "comment") flags) (text_of (codes "distribution") flags)
-        (text_of (codes "component") flags) (word_at words 0)
+    (text_of (codes "component") flags) (word_at words 0)
 repo_command r.Remove flags words = repo_remove (switch_of (codes "dry-run") flags) (word_at words 0) (drop 1 words)
 repo_command r.Copy flags words =
     repo_copy (switch_of (codes "dry-run") flags) (switch_of (codes "with-deps") flags) (follow_of flags)
-        (word_at words 0) (word_at words 1) (drop 2 words)
+    (word_at words 0) (word_at words 1) (drop 2 words)
 repo_command r.Move flags words =
     repo_move (switch_of (codes "dry-run") flags) (switch_of (codes "with-deps") flags) (follow_of flags)
-        (word_at words 0) (word_at words 1) (drop 2 words)
+    (word_at words 0) (word_at words 1) (drop 2 words)
 repo_command r.Import flags words =
     repo_import (switch_of (codes "dry-run") flags) (switch_of (codes "with-deps") flags) (follow_of flags)
-        (word_at words 0) (word_at words 1) (drop 2 words)
+    (word_at words 0) (word_at words 1) (drop 2 words)
 repo_command r.Rename flags words = repo_rename (word_at words 0) (word_at words 1)
 repo_command r.Drop flags words = repo_drop (word_at words 0)
 
@@ -100,14 +100,14 @@ snapshot_command s.List flags words = snapshot_list
 snapshot_command s.Show flags words = snapshot_show (switch_of (codes "with-packages") flags) (word_at words 0)
 snapshot_command s.Filter flags words =
     snapshot_filter (switch_of (codes "with-deps") flags) (follow_of flags) (word_at words 0) (word_at words 1)
-        (drop 2 words)
+    (drop 2 words)
 snapshot_command s.Merge flags words =
     snapshot_merge (switch_of (codes "latest") flags) (switch_of (codes "no-remove") flags) (word_at words 0)
-        (drop 1 words)
+    (drop 1 words)
 snapshot_command s.Pull flags words =
     snapshot_pull (switch_of (codes "all-matches") flags) (switch_of (codes "dry-run") flags)
-        (switch_of (codes "no-deps") flags) (switch_of (codes "no-remove") flags) (follow_of flags)
-        (word_at words 0) (word_at words 1) (word_at words 2) (drop 3 words)
+    (switch_of (codes "no-deps") flags) (switch_of (codes "no-remove") flags) (follow_of flags)
+    (word_at words 0) (word_at words 1) (word_at words 2) (drop 3 words)
 snapshot_command s.Search flags words =
     snapshot_search (switch_of (codes "with-deps") flags) (follow_of flags) (word_at words 0) (word_at words 1)
 snapshot_command s.Rename flags words = snapshot_rename (word_at words 0) (word_at words 1)
@@ -117,15 +117,15 @@ snapshot_command s.Drop flags words = snapshot_drop (word_at words 0)
 abbrev pub switch_command : Option Words → ℕ → Words → PlainCommand
 switch_command components n words =
     if length words == n + 2 then publish_switch components (word_at words 0) (slice_get words 1)
-        (drop 2 words) else publish_switch components (word_at words 0) None (drop 1 words)
+    (drop 2 words) else publish_switch components (word_at words 0) None (drop 1 words)
 
 abbrev pub publish_command : PublishVerb → Words → Words → PlainCommand
 publish_command p.Snapshot flags words =
     publish_snapshot (settings_of flags) (take (components_len flags) words)
-        (slice_get words (components_len flags))
+    (slice_get words (components_len flags))
 publish_command p.Repo flags words =
     publish_repo (settings_of flags) (take (components_len flags) words)
-        (slice_get words (components_len flags))
+    (slice_get words (components_len flags))
 publish_command p.List flags words = publish_list
 publish_command p.Show flags words = publish_show (word_at words 0) (slice_get words 1)
 publish_command p.Switch flags words = switch_command (texts_of (codes "component") flags) (components_len flags) words
@@ -164,7 +164,7 @@ arguments_of words = drop (mark_len (after_flags words)) (after_flags words)
 unfoldable pub row_begins : RowRule → Words → Bool
 row_begins row words =
     flags_stand row.flags (flags_of words) && arguments_begin row.arguments (components_len (flags_of words))
-        (arguments_of words)
+    (arguments_of words)
 
 unfoldable pub row_ends : RowRule → Words → Bool
 row_ends row words = arguments_end row.arguments (components_len (flags_of words)) (arguments_of words)
@@ -172,7 +172,7 @@ row_ends row words = arguments_end row.arguments (components_len (flags_of words
 abbrev pub row_spells : RowRule → Words → Option PlainCommand
 row_spells row words =
     if row_begins row words && row_ends row words then Some
-        (command_of row.kind (flags_of words) (arguments_of words)) else None
+    (command_of row.kind (flags_of words) (arguments_of words)) else None
 
 abbrev pub spelled_by : Option RowRule → Words → Option PlainCommand
 spelled_by None words = None
