@@ -1,4 +1,5 @@
 pub mod LineLemmas
+pub mod NameLemmas
 pub mod Trims
 pub mod FieldLemmas
 pub mod Found

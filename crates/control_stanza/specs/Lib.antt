@@ -1,5 +1,6 @@
 pub mod Lines
 pub mod Fields
+pub mod Names
 pub mod Spelled
 pub mod Reading
 pub mod Faults

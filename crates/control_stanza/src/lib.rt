@@ -3,6 +3,7 @@
 
 mod begun;
 mod fault;
+mod gathered;
 mod line;
 mod read;
 mod stanza;

@@ -10,6 +10,7 @@ ghost use Rattle.control_stanza.specs.Answers.{Gives, GivesStep, step_seen, IfFa
 
 use crate::begun::Begun;
 use crate::fault::{StanzaFault, StanzaKind, StepError};
+use crate::gathered::Gathered;
 use crate::line::{Cut, Line, classify, first_line};
 use crate::stanza::{Field, Stanza};
 use crate::text::Text;
@@ -81,7 +82,7 @@ fn added(
 {
     match current {
         None => {
-            let stanza = Stanza::begin(alloc, field)?;
+            let stanza = Gathered::begin(alloc, field)?;
             grown(
                 bound,
                 Begun {
@@ -92,10 +93,10 @@ fn added(
             )
         }
         Some(begun) => {
-            if begun.stanza.has_name(field.name.as_str()) {
+            if begun.stanza.has_name(alloc, field.name.as_str())? {
                 return Err(StepError::Shows(StanzaKind::RepeatedField));
             }
-            let stanza = begun.stanza.with_field(field)?;
+            let stanza = begun.stanza.with_field(alloc, field)?;
             grown(
                 bound,
                 Begun {
@@ -153,14 +154,14 @@ fn read_all(
             Err(StepError::Shows(kind)) => return Err(StanzaFault::At { line: number, kind }),
         };
         if let Some(ended) = ended {
-            done.push((ended.number, ended.stanza))?;
+            done.push((ended.number, ended.stanza.into_stanza()))?;
         }
         current = begun;
         rest = cut.rest;
         number += 1;
     }
     if let Some(last) = current {
-        done.push((last.number, last.stanza))?;
+        done.push((last.number, last.stanza.into_stanza()))?;
     }
     Ok(done)
 }

@@ -42,7 +42,7 @@ fn is_same_name(a: &str, b: &str) -> bool
     a.eq_ignore_ascii_case(b)
 }
 
-fn has_field(fields: &[Field], name: &str) -> bool
+pub(crate) fn has_field(fields: &[Field], name: &str) -> bool
     ensures { result ≡ name_is_there fields.now name.now }
 {
     for field in fields {
@@ -103,12 +103,6 @@ impl Stanza {
         let Stanza { mut fields } = self;
         go_on_last(&mut fields, more)?;
         Ok(Stanza { fields })
-    }
-
-    pub(crate) fn has_name(&self, name: &str) -> bool
-        ensures { result ≡ name_is_there self.now name.now }
-    {
-        has_field(&self.fields, name)
     }
 
     /// The fields in order.

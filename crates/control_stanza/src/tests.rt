@@ -61,6 +61,33 @@ fn names_the_first_line_that_cannot_stand_there(rt: HostRuntime) {
     }
 }
 
+/// So many fields without a value, named `aa`, `ab` and so on.
+fn many_fields(alloc: Global, fields: u8) -> Option<Vec<u8>> {
+    let mut bytes = Vec::new(alloc);
+    for n in 0..fields {
+        bytes
+            .extend_from_slice(&[b'a' + n / 16, b'a' + n % 16, b':', b'\n'])
+            .ok()?;
+    }
+    Some(bytes)
+}
+
+#[test]
+fn a_stanza_may_have_many_fields(rt: HostRuntime) {
+    for (name, fields) in [(b"AA:1", 80), (b"EP:1", 81)] {
+        let Some(mut bytes) = many_fields(rt.alloc(), fields) else {
+            assert!(&rt; false, "no memory");
+            return;
+        };
+        assert!(&rt; read_stanzas(rt.alloc(), &bytes).is_ok());
+        assert!(&rt; bytes.extend_from_slice(name).is_ok());
+        assert_eq!(&rt;
+            fault_of(rt.alloc(), &bytes),
+            Some((fields as u64 + 1, StanzaKind::RepeatedField))
+        );
+    }
+}
+
 /// `A:`, so many letters, and what follows.
 fn long_text(alloc: Global, letters: usize, end: &[u8]) -> Option<Vec<u8>> {
     let mut bytes = Vec::from_slice(alloc, b"A:").ok()?;
