@@ -1,0 +1,5 @@
+pub mod WordFacts
+pub mod Stands
+pub mod Terms
+pub mod Sound
+pub mod Complete

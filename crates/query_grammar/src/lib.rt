@@ -1,0 +1,11 @@
+//! Package queries: their trees, how they are read, and how they are written.
+#![tactic(auto)]
+
+mod fault;
+mod level;
+mod piece;
+mod query;
+mod term;
+
+pub use fault::{QueryFault, QueryKind};
+pub use query::{Query, Test};
