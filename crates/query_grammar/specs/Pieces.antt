@@ -33,7 +33,7 @@ pub record Piece : Type 0 where
   pub shape : Shape
   pub bytes : List ℕ
 
-abbrev one_more : Option ℕ → Option ℕ
+abbrev pub one_more : Option ℕ → Option ℕ
 one_more None = None
 one_more (Some n) = Some (suc n)
 
@@ -59,19 +59,19 @@ abbrev pub quoted_value : List ℕ → List ℕ
 quoted_value [] = []
 quoted_value (quote ∷ rest) = unquoted quote false (take (length rest - 1) rest)
 
-abbrev of_one : Shape → Cut
+abbrev pub of_one : Shape → Cut
 of_one shape = record { shape = shape; size = 1 }
 
-abbrev of_two : Shape → Cut
+abbrev pub of_two : Shape → Cut
 of_two shape = record { shape = shape; size = 2 }
 
 -- behind a `<`
-abbrev after_less : List ℕ → Cut
+abbrev pub after_less : List ℕ → Cut
 after_less [] = of_one Lone
 after_less (c ∷ cs) = if c == 60 then of_two (Operator Less) else if c == 61 then of_two (Operator LessEqual) else of_one Lone
 
 -- behind a `>`
-abbrev after_greater : List ℕ → Cut
+abbrev pub after_greater : List ℕ → Cut
 after_greater [] = of_one Lone
 after_greater (c ∷ cs) = if c == 61 then of_two (Operator GreaterEqual) else if c == 62 then of_two (Operator Greater) else of_one Lone
 
@@ -82,7 +82,7 @@ plain_cut c cs =
     else if is_word c then record { shape = Word; size = suc (prefix_len is_word cs) }
     else of_one (Mark c)
 
-abbrev quoted_cut : List ℕ → Option ℕ → Cut
+abbrev pub quoted_cut : List ℕ → Option ℕ → Cut
 quoted_cut cs None = record { shape = Broken; size = suc (length cs) }
 quoted_cut cs (Some n) = record { shape = Quoted; size = suc n }
 
@@ -108,14 +108,14 @@ first_cut Opening c cs = opening_cut c cs
 first_cut Inside c cs = inner_cut c cs
 
 -- behind a piece outside a term's parentheses: they begin with a `(` behind a run of word characters
-abbrev outer_place : Place → Shape → Place
+abbrev pub outer_place : Place → Shape → Place
 outer_place place Blank = place
 outer_place place Word = BehindWord
 outer_place BehindWord (Mark c) = if c == 40 then Opening else Outside
 outer_place place shape = Outside
 
 -- behind a piece inside: they end with the next `)`
-abbrev inner_place : Place → Shape → Place
+abbrev pub inner_place : Place → Shape → Place
 inner_place place Blank = place
 inner_place place (Mark c) = if c == 41 then Outside else Inside
 inner_place place shape = Inside

@@ -6,6 +6,7 @@ mod level;
 mod piece;
 mod query;
 mod term;
+mod value;
 
 pub use fault::{QueryFault, QueryKind};
 pub use query::{Query, Test};
