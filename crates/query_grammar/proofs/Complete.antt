@@ -111,7 +111,6 @@ pauses-field : (name : List ℕ) → Pauses (so_far.Field name) (field name None
 unfolding progress at_end
 pauses-field name = record { at_end_of_text = refl; at_comma = refl; at_bar = refl; at_close = refl }
 
-
 opened-version : (name version : List ℕ) → IsTrue (is_version version) → progress (so_far.PackageOpened name) (word version) ≡ goes_on (so_far.Versioned name relation.Equal version)
 unfolding progress
 opened-version name version v = ap (λ c. cond c (goes_on (so_far.Versioned name relation.Equal version)) (wrong QueryKind_is.BadVersion)) v
@@ -268,13 +267,14 @@ module _ (Item : List Token → Tree → Type 0) (n : ℕ) (takes : Takes Item n
 
   -- the level that is whole behind an `any`
   any-takes : (outer : List Level) (room : ℕ) (ps : List Token) (t : Tree) → n ≤ room → AnyOf Item ps t → (l : Level) × (whole_level l ≡ t) × ((rest : List Token) → Follows rest → result_of (state outer (empty_level room) Wanting) (ps ++ rest) ≡ result_of (state outer l Having) rest)
-  any-takes outer room ps t fits (ts, b, made) =
-      (level_of b.firsts b.end.0 room,
-       ap (λ u. any_of (b.firsts ++ u ∷ [])) (sym b.end.2) ∙ ap any_of (sym b.trees) ∙ sym made,
-       λ rest f.
-         ap (λ qs. result_of (state outer (empty_level room) Wanting) qs) (ap (λ qs. qs ++ rest) b.split ∙ append_assoc b.front b.last rest)
-         ∙ alternatives-followed b.firsts outer [] room b.front (b.last ++ rest) fits b.each
-         ∙ all-takes outer b.firsts room b.last rest b.end.0 fits b.end.1 f)
+  any-takes outer room ps t fits (ts, b, made) = (
+    level_of b.firsts b.end.0 room,
+    ap (λ u. any_of (b.firsts ++ u ∷ [])) (sym b.end.2) ∙ ap any_of (sym b.trees) ∙ sym made,
+    λ rest f.
+        ap (λ qs. result_of (state outer (empty_level room) Wanting) qs) (ap (λ qs. qs ++ rest) b.split ∙ append_assoc b.front b.last rest)
+        ∙ alternatives-followed b.firsts outer [] room b.front (b.last ++ rest) fits b.each
+        ∙ all-takes outer b.firsts room b.last rest b.end.0 fits b.end.1 f,
+  )
 
 negate-inside : (n : ℕ) (t : Tree) → negate n (negated t) ≡ negated (negate n t)
 negate-inside zero t = refl

@@ -59,9 +59,9 @@ closed_holds most room (o ∷ os) l ps before here e (outer_room, first, opened,
       before = first;
       here = opened ++ group;
       split =
-        behind_split ps before here (mark 41) e ∙ ap (λ qs. qs ++ (here ++ mark 41 ∷ [])) f
-        ∙ append_assoc first (opened ++ mark 40 ∷ []) (here ++ mark 41 ∷ [])
-        ∙ ap (λ qs. first ++ qs) (append_assoc opened (mark 40 ∷ []) (here ++ mark 41 ∷ []));
+          behind_split ps before here (mark 41) e ∙ ap (λ qs. qs ++ (here ++ mark 41 ∷ [])) f
+          ∙ append_assoc first (opened ++ mark 40 ∷ []) (here ++ mark 41 ∷ [])
+          ∙ ap (λ qs. first ++ qs) (append_assoc opened (mark 40 ∷ []) (here ++ mark 41 ∷ []));
       around = around;
       inside = Ready-member outer_room o opened group (whole_level l) ready (subst (λ n. One n group (whole_level l)) (sym rooms) (inr (inr (here, refl, Done-whole room l here d))));
     }
@@ -71,10 +71,10 @@ unfolding step_having
 having_holds most room outer l ps before here (mark c) e a d =
     StepHolds-if most _ (c == 44) _ _
     (λ h. at_mark most ps 44 c (goes (record { outer = outer; level = l; next = Wanting })) h
-          (record { room = room; before = before; here = here ++ mark 44 ∷ []; split = behind_split ps before here (mark 44) e; around = a; inside = Done-comma room l here d }))
+    (record { room = room; before = before; here = here ++ mark 44 ∷ []; split = behind_split ps before here (mark 44) e; around = a; inside = Done-comma room l here d }))
     (λ _. StepHolds-if most _ (c == 124) _ _
     (λ h. at_mark most ps 124 c (goes (record { outer = outer; level = with_alternative l; next = Wanting })) h
-          (record { room = room; before = before; here = here ++ mark 124 ∷ []; split = behind_split ps before here (mark 124) e; around = a; inside = Done-bar room l here d }))
+    (record { room = room; before = before; here = here ++ mark 124 ∷ []; split = behind_split ps before here (mark 124) e; around = a; inside = Done-bar room l here d }))
     (λ _. StepHolds-if most _ (c == 41) _ _
     (λ h. at_mark most ps 41 c (closed_group outer l) h (closed_holds most room outer l ps before here e a d))
     (λ _. tt)))
@@ -101,8 +101,8 @@ negation_holds most room outer l (suc n) ps before here rooms e a r = record {
     alternatives = r.alternatives;
     members = r.members;
     split =
-      ap (λ qs. qs ++ mark 33 ∷ []) r.split ∙ append_assoc r.alternatives _ (mark 33 ∷ [])
-      ∙ ap (λ qs. r.alternatives ++ qs) (append_assoc r.members (bangs l.negations) (mark 33 ∷ []) ∙ ap (λ qs. r.members ++ qs) (bangs-more l.negations [] ∙ append-nil _));
+        ap (λ qs. qs ++ mark 33 ∷ []) r.split ∙ append_assoc r.alternatives _ (mark 33 ∷ [])
+        ∙ ap (λ qs. r.alternatives ++ qs) (append_assoc r.members (bangs l.negations) (mark 33 ∷ []) ∙ ap (λ qs. r.members ++ qs) (bangs-more l.negations [] ∙ append-nil _));
     rooms = more_room l.room l.negations n room rooms r.rooms;
     each_alternative = r.each_alternative;
     each_member = r.each_member;

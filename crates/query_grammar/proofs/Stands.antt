@@ -96,10 +96,11 @@ Done-bar room l here d = record {
 
 -- a level that is whole
 pub Done-whole : (room : ℕ) (l : Level) (here : List Token) → Done room l here → AnyOf (One room) here (whole_level l)
-Done-whole room l here d =
-    (l.alternatives ++ all_of l.members ∷ [],
-     record { front = d.alternatives; last = d.members; firsts = l.alternatives; final = all_of l.members; split = d.split; trees = refl; each = d.each_alternative; end = (l.members, d.between, refl) },
-     refl)
+Done-whole room l here d = (
+  l.alternatives ++ all_of l.members ∷ [],
+  record { front = d.alternatives; last = d.members; firsts = l.alternatives; final = all_of l.members; split = d.split; trees = refl; each = d.each_alternative; end = (l.members, d.between, refl) },
+  refl,
+)
 
 pub Ready-empty : (room : ℕ) → Ready room (empty_level room) []
 Ready-empty room = record { alternatives = []; members = []; split = refl; rooms = add-zero room; each_alternative = refl; each_member = refl }

@@ -21,8 +21,8 @@ is_arch-nil = refl
 after-inside : (text : List ℕ) → (after_first is_underscore text ≡ [] → ⊥) → position_or_len is_underscore text < length text
 after-inside text h =
     elim (cases_lt (position_or_len is_underscore text) (length text)) [
-      inl l ↦ l
-    | inr g ↦ absurd (h (drop_all (position_or_len is_underscore text + 1) text (omega arith)))
+      | inl l ↦ l
+      | inr g ↦ absurd (h (drop_all (position_or_len is_underscore text + 1) text (omega arith)))
     ]
 
 cut_at_first : (text : List ℕ) → (after_first is_underscore text ≡ [] → ⊥) → text ≡ before_first is_underscore text ++ 95 ∷ after_first is_underscore text
@@ -58,14 +58,14 @@ special_first text literal f h = ap (λ xs. is_lower_or_digit (get_or xs 0 0)) (
 special_field_first : (text : List ℕ) → is_special_field text ≡ true → is_lower_or_digit (get_or text 0 0) ≡ false
 special_field_first text h =
     elim (or_cases _ _ h) [
-      inr a ↦ special_first text (codes "$PackageType") refl a
-    | inl b ↦ elim (or_cases _ _ b) [
-        inr a ↦ special_first text (codes "$Version") refl a
-      | inl d ↦ elim (or_cases _ _ d) [
-          inr a ↦ special_first text (codes "$Architecture") refl a
-        | inl e ↦ elim (or_cases _ _ e) [
-            inr a ↦ special_first text (codes "$SourceVersion") refl a
-          | inl a ↦ special_first text (codes "$Source") refl a
+      | inr a ↦ special_first text (codes "$PackageType") refl a
+      | inl b ↦ elim (or_cases _ _ b) [
+        | inr a ↦ special_first text (codes "$Version") refl a
+        | inl d ↦ elim (or_cases _ _ d) [
+          | inr a ↦ special_first text (codes "$Architecture") refl a
+          | inl e ↦ elim (or_cases _ _ e) [
+            | inr a ↦ special_first text (codes "$SourceVersion") refl a
+            | inl a ↦ special_first text (codes "$Source") refl a
           ]
         ]
       ]

@@ -16,7 +16,7 @@ Related ps None = ps ≡ []
 Related ps (Some (asked, version)) =
     IsTrue (is_version version)
     × ((asked ≡ relation.Equal) × (ps ≡ mark 40 ∷ word version ∷ mark 41 ∷ [])
-       ⊎ (how : Test) × (relation_of how ≡ Some asked) × (ps ≡ mark 40 ∷ operator how ∷ word version ∷ mark 41 ∷ []))
+    ⊎ (how : Test) × (relation_of how ≡ Some asked) × (ps ≡ mark 40 ∷ operator how ∷ word version ∷ mark 41 ∷ []))
 
 -- `{ arch }` or nothing
 abbrev pub Bound : List Token → Option (List ℕ) → Type 0
@@ -34,7 +34,7 @@ Tested name ps (Some (how, value)) =
     IsTrue (may_test name how value)
     × (p : Token) × IsValue p value
     × ((how ≡ test.Equal) × (ps ≡ mark 40 ∷ p ∷ mark 41 ∷ [])
-       ⊎ (ps ≡ mark 40 ∷ operator how ∷ p ∷ mark 41 ∷ []))
+    ⊎ (ps ≡ mark 40 ∷ operator how ∷ p ∷ mark 41 ∷ []))
 
 -- a reference, a wanted package or a field
 abbrev pub Term : List Token → Tree → Type 0

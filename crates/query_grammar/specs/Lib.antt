@@ -3,3 +3,4 @@ pub mod Pieces
 pub mod Words
 pub mod Grammar
 pub mod Reading
+pub mod Views

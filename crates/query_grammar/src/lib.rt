@@ -7,6 +7,7 @@ mod piece;
 mod query;
 mod term;
 mod value;
+mod words;
 
 pub use fault::{QueryFault, QueryKind};
 pub use query::{Query, Test};

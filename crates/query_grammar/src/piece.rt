@@ -57,7 +57,10 @@ fn is_blank(c: u8) -> bool
 pub(crate) fn is_word(c: u8) -> bool
     ensures { result ≡ word_character c }
 {
-    let is_special = matches!(c, b'(' | b')' | b'{' | b'}' | b',' | b'|' | b'!' | b'\'' | b'"');
+    let is_special = matches!(
+        c,
+        b'(' | b')' | b'{' | b'}' | b',' | b'|' | b'!' | b'\'' | b'"'
+    );
     c >= 0x21 && c != 0x7f && !is_special
 }
 
@@ -160,10 +163,16 @@ fn plain_cut(first: u8, text: &[u8]) -> Cut
     ensures inside { result.size ≤ length text.now + 1 }
 {
     if is_blank(first) {
-        return Cut { shape: Shape::Blank, size: blanks(text) + 1 };
+        return Cut {
+            shape: Shape::Blank,
+            size: blanks(text) + 1,
+        };
     }
     if is_word(first) {
-        return Cut { shape: Shape::Word, size: word_characters(text) + 1 };
+        return Cut {
+            shape: Shape::Word,
+            size: word_characters(text) + 1,
+        };
     }
     of_one(Shape::Mark(first))
 }
@@ -178,8 +187,14 @@ fn inner_cut(first: u8, text: &[u8]) -> Cut
         return plain_cut(first, text);
     }
     match closing(first, text) {
-        None => Cut { shape: Shape::Broken, size: text.len() + 1 },
-        Some(n) => Cut { shape: Shape::Quoted, size: n + 1 },
+        None => Cut {
+            shape: Shape::Broken,
+            size: text.len() + 1,
+        },
+        Some(n) => Cut {
+            shape: Shape::Quoted,
+            size: n + 1,
+        },
     }
 }
 
