@@ -3,3 +3,5 @@ pub mod Stands
 pub mod Terms
 pub mod Sound
 pub mod Complete
+pub mod QuotedText
+pub mod PieceText

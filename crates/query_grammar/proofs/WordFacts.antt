@@ -9,6 +9,7 @@ use Rattle.std.proofs.lemmas.List.Sums.{split_at_first, passes_at_first}
 use Rattle.std.proofs.lemmas.Bool.{eqb-true, and_parts, or_cases, not-true, true≢false, false_from_ne_true, cases_lt, and_from, and_right, cond-true, cond-false, lt-leb, both_ways}
 use Rattle.std.proofs.lemmas.Bool.Decides.{nat_tests}
 use Rattle.std.proofs.lemmas.Slice.Eq.{bytes_eq-Decides}
+use Rattle.ap_text.specs.Names.{is_name}
 use Rattle.query_grammar.specs.Words.{IsReference, is_package, is_plain_version, is_arch, is_field, is_underscore, is_lower_or_digit, is_upper, is_special_field, has_no_underscore}
 use Rattle.query_grammar.specs.Reading.{Progress, goes_on, whole, begun, is_reference}
 use Rattle.query_grammar.specs.declared.term.Begun.TheVariants.{Package, Field}
@@ -139,3 +140,11 @@ begun-reference text name version arch r =
     ∙ cond-false (is_field (name ++ 95 ∷ rest)) _ _ (reference-no_field name (95 ∷ rest) r.named)
     ∙ cond-true (is_reference (name ++ 95 ∷ rest)) _ _ (reference_is name version arch r.named r.dated r.bound)
     ∙ (λ i. whole (reference (e i) (g i) (k i)))
+
+pub arch_is_name : (text : List ℕ) → is_arch text ≡ true → is_name text ≡ true
+unfolding is_arch
+arch_is_name text h = (and_parts _ _ h).0
+
+pub package_is_name : (text : List ℕ) → is_package text ≡ true → is_name text ≡ true
+unfolding is_package
+package_is_name text h = (and_parts _ _ (and_parts _ _ h).0).0

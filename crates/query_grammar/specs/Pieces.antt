@@ -171,3 +171,8 @@ tokens (p ∷ ps) = behind (token p.shape p.bytes) (tokens ps)
 abbrev pub joined : List Piece → List ℕ
 joined [] = []
 joined (p ∷ ps) = p.bytes ++ joined ps
+
+-- a fact for quoted values alone
+abbrev pub IfQuoted : Shape → Type 0 → Type 0
+IfQuoted Quoted P = P
+IfQuoted shape P = Unit {0}

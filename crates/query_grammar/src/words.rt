@@ -3,7 +3,7 @@
 ghost use Rattle.std.specs.Prelude.{◌≡◌, IsTrue, IsFalse, IfOk, MatchOption, slice_index};
 ghost use Rattle.ap_text.specs.Names.{is_name};
 ghost use Rattle.deb_version.specs.VersionText.{is_version};
-ghost use Rattle.query_grammar.specs.Words.{has_no_underscore as no_underscore, is_lower_or_digit as lower_or_digit, is_package as package_name, is_arch as architecture, is_upper as upper, is_special_field as special_field, is_field as field_name, is_comparing as comparing, wants_version as asks_version};
+ghost use Rattle.query_grammar.specs.Words.{has_no_underscore as no_underscore, is_lower_or_digit as lower_or_digit, is_package as package_name, is_arch as architecture, is_upper as upper, is_special_field as special_field, is_field as field_name, is_comparing as comparing, wants_version as asks_version, may_test as allows};
 
 use crate::query::Test;
 use ap_text::Name;
@@ -108,4 +108,44 @@ pub(crate) fn version_of(alloc: Global, text: &str) -> Result<Option<Version>, A
         Err(VersionFault::OutOfMemory) => Err(AllocError),
         Err(_) => Ok(None),
     }
+}
+
+/// The architecture that a text is.
+#[tactic(auto, using(crate::proofs::WordFacts::arch_is_name))]
+pub(crate) fn arch_of(alloc: Global, text: &str) -> Result<Name, AllocError>
+    requires { IsTrue (architecture text.now) }
+    ensures { IfOk result (λ name. name ≡ text.now) }
+{
+    name_of(alloc, text)
+}
+
+/// The package name that a text is.
+#[tactic(auto, using(crate::proofs::WordFacts::package_is_name))]
+pub(crate) fn package_of(alloc: Global, text: &str) -> Result<Name, AllocError>
+    requires { IsTrue (package_name text.now) }
+    ensures { IfOk result (λ name. name ≡ text.now) }
+{
+    name_of(alloc, text)
+}
+
+fn is_version_text(alloc: Global, text: &str) -> Result<bool, AllocError>
+    ensures { IfOk result (λ yes. yes ≡ is_version text.now) }
+{
+    Ok(version_of(alloc, text)?.is_some())
+}
+
+/// The value may stand in the test of the field.
+#[tactic(auto, unfolding(crate::specs::Words::may_test))]
+pub(crate) fn may_test(
+    alloc: Global,
+    field: &str,
+    test: Test,
+    value: &str,
+) -> Result<bool, AllocError>
+    ensures { IfOk result (λ yes. yes ≡ allows field.now test value.now) }
+{
+    if !wants_version(field, test) {
+        return Ok(true);
+    }
+    is_version_text(alloc, value)
 }
