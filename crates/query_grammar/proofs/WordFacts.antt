@@ -7,12 +7,15 @@ use Rattle.std.proofs.Math.Seq.{take-append_seam, drop-append-add}
 use Rattle.std.proofs.lemmas.List.Folds.{list_all-append}
 use Rattle.std.proofs.lemmas.List.Sums.{split_at_first, passes_at_first}
 use Rattle.std.proofs.lemmas.Bool.{eqb-true, and_parts, or_cases, not-true, true≢false, false_from_ne_true, cases_lt, and_from, and_right, cond-true, cond-false, lt-leb, both_ways}
+use Rattle.std.proofs.Math.Bool.{and-true}
 use Rattle.std.proofs.lemmas.Bool.Decides.{nat_tests}
 use Rattle.std.proofs.lemmas.Slice.Eq.{bytes_eq-Decides}
 use Rattle.ap_text.specs.Names.{is_name}
+use Rattle.deb_version.specs.VersionText.{is_version}
 use Rattle.query_grammar.specs.Words.{IsReference, is_package, is_plain_version, is_arch, is_field, is_underscore, is_lower_or_digit, is_upper, is_special_field, has_no_underscore}
-use Rattle.query_grammar.specs.Reading.{Progress, goes_on, whole, begun, is_reference}
+use Rattle.query_grammar.specs.Reading.{Progress, goes_on, whole, wrong, begun, is_reference, as_reference, reference_in}
 use Rattle.query_grammar.specs.declared.term.Begun.TheVariants.{Package, Field}
+use Rattle.query_grammar.specs.declared.fault.QueryKind.TheVariants.{WantTerm}
 use Rattle.query_grammar.specs.Tree.{reference}
 
 is_arch-nil : is_arch [] ≡ false
@@ -148,3 +151,37 @@ arch_is_name text h = (and_parts _ _ h).0
 pub package_is_name : (text : List ℕ) → is_package text ≡ true → is_name text ≡ true
 unfolding is_package
 package_is_name text h = (and_parts _ _ (and_parts _ _ h).0).0
+
+-- no `_`, or only one
+pub no_underscore_no_reference : (text : List ℕ) → position_or_len is_underscore text ≡ length text → is_reference text ≡ false
+unfolding is_reference
+no_underscore_no_reference text e =
+    let none : after_first is_underscore text ≡ [] = drop_all (position_or_len is_underscore text + 1) text (omega arith) in
+    and_right _ _ (ap (λ xs. is_arch (after_first is_underscore xs)) none ∙ is_arch-nil)
+
+pub one_underscore_no_reference : (text : List ℕ) → position_or_len is_underscore (after_first is_underscore text) ≡ length (after_first is_underscore text) → is_reference text ≡ false
+unfolding is_reference
+one_underscore_no_reference text e =
+    let none : after_first is_underscore (after_first is_underscore text) ≡ [] = drop_all (position_or_len is_underscore (after_first is_underscore text) + 1) (after_first is_underscore text) (omega arith) in
+    and_right _ _ (ap is_arch none ∙ is_arch-nil)
+
+before-no_underscore : (xs : List ℕ) → has_no_underscore (before_first is_underscore xs) ≡ true
+before-no_underscore [] = refl
+before-no_underscore (c ∷ cs) = go (not (c == 95)) refl (before-no_underscore cs)
+  where
+    go : (b : Bool) → b ≡ not (c == 95) → has_no_underscore (before_first is_underscore cs) ≡ true → has_no_underscore (take (cond b (1 + position_or_len is_underscore cs) 0) (c ∷ cs)) ≡ true
+    go true e rest =
+        let more : suc (position_or_len is_underscore cs) ≡ 1 + position_or_len is_underscore cs = omega arith in
+        subst (λ m. has_no_underscore (take m (c ∷ cs)) ≡ true) more (and_from _ _ (sym e) rest)
+    go false e rest = refl
+
+-- what stands before a `_` is a version that has none
+pub before-plain : (xs : List ℕ) → is_plain_version (before_first is_underscore xs) ≡ is_version (before_first is_underscore xs)
+unfolding is_plain_version
+before-plain xs = ap (λ b. is_version (before_first is_underscore xs) && b) (before-no_underscore xs) ∙ and-true _
+
+pub as_reference_by_parts : (text : List ℕ) → as_reference text ≡ reference_in (before_first is_underscore text) (before_first is_underscore (after_first is_underscore text)) (after_first is_underscore (after_first is_underscore text))
+unfolding is_reference
+as_reference_by_parts text =
+    let rest = after_first is_underscore text in
+    ap (λ b. cond (is_package (before_first is_underscore text) && b && is_arch (after_first is_underscore rest)) (whole (reference (before_first is_underscore text) (before_first is_underscore rest) (after_first is_underscore rest))) (wrong WantTerm)) (before-plain rest)

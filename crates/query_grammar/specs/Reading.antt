@@ -37,13 +37,20 @@ arch_in text = after_first is_underscore (after_first is_underscore text)
 unfoldable pub is_reference : List ℕ → Bool
 is_reference text = is_package (name_in text) && is_plain_version (version_in text) && is_arch (arch_in text)
 
+-- the same by the parts between the first two `_`
+abbrev pub reference_in : List ℕ → List ℕ → List ℕ → Progress
+reference_in name version arch = if is_package name && is_version version && is_arch arch then whole (reference name version arch) else wrong WantTerm
+
+-- a word that is no name of a package or of a field
+abbrev pub as_reference : List ℕ → Progress
+as_reference text = if is_reference text then whole (reference (name_in text) (version_in text) (arch_in text)) else wrong WantTerm
+
 -- a word where a term must begin
 unfoldable pub begun : List ℕ → Progress
 begun text =
     if is_package text then goes_on (Package text)
     else if is_field text then goes_on (Field text)
-    else if is_reference text then whole (reference (name_in text) (version_in text) (arch_in text))
-    else wrong WantTerm
+    else as_reference text
 
 abbrev pub versioned : List ℕ → Relation → List ℕ → Progress
 versioned name asked version = if is_version version then goes_on (Versioned name asked version) else wrong BadVersion

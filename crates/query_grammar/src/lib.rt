@@ -1,6 +1,7 @@
 //! Package queries: their trees, how they are read, and how they are written.
 #![tactic(auto)]
 
+mod begin;
 mod fault;
 mod level;
 mod piece;
