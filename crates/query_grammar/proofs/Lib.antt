@@ -5,3 +5,4 @@ pub mod Sound
 pub mod Complete
 pub mod QuotedText
 pub mod PieceText
+pub mod LevelFacts

@@ -1,5 +1,5 @@
 -- Queries read piece by piece: the tree, or the first fault and its place.
-use Rattle.std.specs.Prelude.{◌≡◌, ℕ, suc, zero, ◌+◌, Bool, true, false, not, ◌&&◌, ◌||◌, ◌==◌, List, [], ◌∷◌, ◌++◌, length, Option, Some, None, if◌then◌else◌}
+use Rattle.std.specs.Prelude.{◌≡◌, ℕ, suc, zero, ◌+◌, ◌-◌, Bool, true, false, not, ◌&&◌, ◌||◌, ◌==◌, List, [], ◌∷◌, ◌++◌, length, Option, Some, None, if◌then◌else◌}
 use Rattle.std.specs.List.{before_first, after_first}
 use Rattle.deb_version.specs.VersionText.{is_version}
 use Rattle.deb_version.specs.declared.order.Relation.{Relation}
@@ -211,6 +211,10 @@ abbrev pub begin_negation : List Level → Level → ℕ → Step
 begin_negation outer l zero = stops TooDeep
 begin_negation outer l (suc room) =
     goes (record { outer = outer; level = record { alternatives = l.alternatives; members = l.members; negations = suc l.negations; room = room }; next = Wanting })
+
+-- a level behind one `!` more
+abbrev pub negated_level : Level → Level
+negated_level l = record { alternatives = l.alternatives; members = l.members; negations = suc l.negations; room = l.room - 1 }
 
 -- a `(` there
 abbrev pub begin_group : List Level → Level → ℕ → Step

@@ -7,15 +7,14 @@ ghost use Rattle.query_grammar.specs.Reading.{as_reference, reference_in, begun}
 ghost use Rattle.query_grammar.specs.Tree.{plain, reference as reference_tree};
 ghost use Rattle.query_grammar.specs.Views.{progress_view};
 
-use ap_text::Name;
-use control_stanza::Text;
-use deb_version::Version;
-use std::alloc::{AllocError, Global};
-
 use crate::fault::QueryKind;
 use crate::query::Query;
 use crate::term::{Begun, Progress};
 use crate::words;
+use ap_text::Name;
+use control_stanza::Text;
+use deb_version::Version;
+use std::alloc::{AllocError, Global};
 
 /// What stands before the first `_`, and what follows it.
 #[tactic(auto, using(std::proofs::lemmas::Str::Pattern::split_once_first))]
