@@ -5,7 +5,7 @@ use Rattle.std.proofs.Math.Dec.{eqb-suc-zero}
 use Rattle.query_grammar.specs.declared.level.Level as declared
 use Rattle.query_grammar.specs.declared.level.Next.TheVariants.{Wanting}
 use Rattle.query_grammar.specs.declared.fault.QueryKind.TheVariants.{Trailing, WantClose, TooDeep}
-use Rattle.query_grammar.specs.Reading.{Level, State, Step, goes, stops, after_whole, begin_negation, begin_group, negated_level, empty_level}
+use Rattle.query_grammar.specs.Reading.{Level, State, Step, goes, stops, after_whole, begin_negation, begin_group, negated_level, empty_level, Reading, tree, fault, finish_having, whole_level}
 use Rattle.query_grammar.specs.Views.{level_view, outer_view}
 use Rattle.query_grammar.specs.Tree.{Tree, listed, any, all}
 use Rattle.query_grammar.specs.Grammar.{all_of, any_of}
@@ -59,5 +59,19 @@ group_fits outer l h = go l.room h
         let e : n ≡ suc n - 1 = omega arith in
         ap (λ r. goes (record { outer = l ∷ outer; level = empty_level r; next = Wanting })) e
 
-pub no_room : (outer : List Level) (l : Level) → l.room ≡ 0 → (begin_negation outer l l.room ≡ stops TooDeep) × (begin_group outer l l.room ≡ stops TooDeep)
-no_room outer l e = (ap (λ n. begin_negation outer l n) e, ap (λ n. begin_group outer l n) e)
+pub no_room_to_negate : (outer : List Level) (l : Level) → l.room ≡ 0 → begin_negation outer l l.room ≡ stops TooDeep
+no_room_to_negate outer l e = ap (λ n. begin_negation outer l n) e
+
+pub no_room_to_group : (outer : List Level) (l : Level) → l.room ≡ 0 → begin_group outer l l.room ≡ stops TooDeep
+no_room_to_group outer l e = ap (λ n. begin_group outer l n) e
+
+-- the end of the text behind a whole member
+finish_push : (at : ℕ) (ls : List Level) (l inner : Level) → finish_having at (ls ++ l ∷ []) inner ≡ fault at WantClose
+finish_push at [] l inner = refl
+finish_push at (k ∷ ks) l inner = refl
+
+pub finish_outer : (at : ℕ) (ls : List declared.Level) (inner : Level) → finish_having at (outer_view ls) inner ≡ cond (length ls == 0) (tree (whole_level inner)) (fault at WantClose)
+finish_outer at [] inner = refl
+finish_outer at (l ∷ ls) inner =
+    ap (λ os. finish_having at os inner) (reverse-append (level_view l ∷ []) (map level_view ls)) ∙ finish_push at (outer_view ls) (level_view l) inner
+    ∙ ap (λ b. cond b (tree (whole_level inner)) (fault at WantClose)) (sym (eqb-suc-zero (length ls)))
