@@ -6,3 +6,5 @@ pub mod Complete
 pub mod QuotedText
 pub mod PieceText
 pub mod LevelFacts
+pub mod Cuts
+pub mod Turns

@@ -176,3 +176,12 @@ joined (p ∷ ps) = p.bytes ++ joined ps
 abbrev pub IfQuoted : Shape → Type 0 → Type 0
 IfQuoted Quoted P = P
 IfQuoted shape P = Unit {0}
+
+-- the first piece of a text that isn't empty
+abbrev pub cut_of : Place → List ℕ → Cut
+cut_of place [] = of_one Lone
+cut_of place (c ∷ cs) = first_cut place c cs
+
+-- the pieces of a text that begins at such a place
+abbrev pub pieces_from : Place → List ℕ → List Piece
+pieces_from place text = cuts (length text) place text

@@ -6,6 +6,7 @@ mod fault;
 mod level;
 mod piece;
 mod query;
+mod read;
 mod reader;
 mod term;
 mod value;
