@@ -8,3 +8,4 @@ pub mod PieceText
 pub mod LevelFacts
 pub mod Cuts
 pub mod Turns
+pub mod Laws

@@ -14,3 +14,4 @@ mod words;
 
 pub use fault::{QueryFault, QueryKind};
 pub use query::{Query, Test};
+pub use read::{read_filter, read_query};

@@ -1,8 +1,11 @@
 //! Reading queries.
 
-ghost use Rattle.std.specs.Prelude.{◌≡◌, ◌+◌, ◌<◌, ◌≤◌, length, take, drop, IfOk};
+ghost use Rattle.std.specs.Prelude.{◌≡◌, ◌+◌, ◌<◌, ◌≤◌, length, take, drop, IfOk, IfErr};
 ghost use Rattle.std.specs.Str.{IsUtf8};
 ghost use Rattle.query_grammar.specs.Pieces.{cut_of, quoted_value, IfQuoted};
+ghost use Rattle.query_grammar.specs.Tree.{Tree, plain};
+ghost use Rattle.query_grammar.specs.Grammar.{QueryText};
+ghost use Rattle.query_grammar.specs.Answers.{IsTree, IsFilterFault, IsQueryFault};
 ghost use Rattle.query_grammar.specs.Reading.{reading};
 ghost use Rattle.query_grammar.specs.Views.{Reads};
 
@@ -53,4 +56,40 @@ fn read_pieces(alloc: Global, text: &str) -> Result<Query, QueryFault>
         rest = behind;
     }
     reader.finish(alloc, at)
+}
+
+/// Reads a query of any length, as a stored filter may have.
+///
+/// The answer is the tree that the text spells in at most 64 levels. There is none exactly where the fault is `At`,
+/// which is never `TooLong`.
+pub fn read_filter(alloc: Global, text: &str) -> Result<Query, QueryFault>
+    // What is read is spelled so.
+    ensures found { IfOk result (λ query. QueryText 64 text.now (plain query)) }
+    // What is spelled so is read, unless memory runs out.
+    ensures only { (t : Tree) → QueryText 64 text.now t → IsTree t result }
+    // Which fault it is.
+    ensures fault { IfErr result (IsFilterFault text.now) }
+{
+    read_pieces(alloc, text)
+}
+
+/// Reads a query of at most 4,096 bytes (aptly manual, package query syntax).
+///
+/// The answer is the tree that the text spells in at most 64 levels. There is none exactly where the fault is `At`;
+/// for a text of more than 4,096 bytes the place is 4,096 and the kind `TooLong`.
+pub fn read_query(alloc: Global, text: &str) -> Result<Query, QueryFault>
+    // What is read is spelled so.
+    ensures found { IfOk result (λ query. QueryText 64 text.now (plain query) × (length text.now ≤ 4096)) }
+    // What is spelled so is read, unless memory runs out.
+    ensures only { (t : Tree) → QueryText 64 text.now t → length text.now ≤ 4096 → IsTree t result }
+    // Which fault it is.
+    ensures fault { IfErr result (IsQueryFault text.now) }
+{
+    if text.len() > 4096 {
+        return Err(QueryFault::At {
+            place: 4096,
+            kind: QueryKind::TooLong,
+        });
+    }
+    read_filter(alloc, text)
 }

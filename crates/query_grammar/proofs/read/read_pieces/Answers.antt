@@ -13,7 +13,8 @@ pub loop-rest-preserved : goal.loop-rest-preserved
 loop-rest-preserved c =
     let split = c.split_piece-shape in
     let some : 0 < length c.loop-rest.rest.now = search rules in
-    let turn = run_goes c.loop-rest.at (reader_view c.loop-rest.reader) c.loop-rest.place c.loop-rest.rest.now split.result.0 split.result.1.now split.result.2.now some split.ensures.shape split.ensures.piece split.ensures.behind (reader_view c.in_ok-reader.reader) c.in_ok-reader.ensures in
-    (omega (arith, split.ensures.joined, c.loop-rest.invariant.0),
-     ap (λ place. run (c.loop-rest.at + length split.result.1.now) (reader_view c.in_ok-reader.reader) (pieces_from place split.result.2.now)) c.next_place-place.ensures ∙ sym turn ∙ c.loop-rest.invariant.1,
-     search rules)
+    let turn = run_goes c.loop-rest.at (reader_view c.loop-rest.reader) c.loop-rest.place c.loop-rest.rest.now split.result.0 split.result.1.now split.result.2.now some split.ensures.shape split.ensures.piece split.ensures.behind (reader_view c.in_ok-reader.reader) c.in_ok-reader.ensures in (
+      omega (arith, split.ensures.joined, c.loop-rest.invariant.0),
+      ap (λ place. run (c.loop-rest.at + length split.result.1.now) (reader_view c.in_ok-reader.reader) (pieces_from place split.result.2.now)) c.next_place-place.ensures ∙ sym turn ∙ c.loop-rest.invariant.1,
+      search rules,
+    )
