@@ -2,51 +2,68 @@
 use Rattle.std.proofs.Common.{◌≡◌, ℕ, suc, zero, ◌+◌, ◌-◌, ◌<◌, ◌≤◌, ◌==◌, Bool, false, cond, List, [], ◌∷◌, ◌++◌, length, take, drop, length-drop, Option, Some, None, refl, sym, ap, ◌∙◌, arith, lit<}
 use Rattle.std.specs.Str.{IsUtf8, IsCharBoundary}
 use Rattle.std.proofs.lemmas.Bool.{cond_both}
+use Rattle.std.proofs.lemmas.List.Sums.{prefix_len-le-length}
 use Rattle.query_grammar.specs.declared.piece.Place.{Place}
 use Rattle.query_grammar.specs.declared.piece.Place.TheVariants.{Outside, BehindWord, Opening, Inside}
 use Rattle.query_grammar.specs.declared.piece.Shape.{Shape}
 use Rattle.query_grammar.specs.declared.piece.Shape.TheVariants.{Blank, Word, Operator, Lone, Quoted, Broken, Mark}
 use Rattle.query_grammar.specs.declared.piece.Cut.{Cut}
 use Rattle.query_grammar.specs.Pieces.{Piece, is_blank, is_word, is_quote, closing, quoted_value, IfQuoted, after_less, after_greater, plain_cut, quoted_cut, inner_cut, opening_cut, first_cut, next_place, cuts, cut_of, pieces_from}
-use Rattle.query_grammar.proofs.PieceText.{IsGood, first_cut-good}
+use Rattle.query_grammar.proofs.PieceText.{IsGood, first_cut-good, closing-place}
 
-record Positive (cut : Cut) : Type 0 where
+-- a piece has a byte at least, and no more than there are
+record IsWithin (room : ℕ) (cut : Cut) : Type 0 where
   above : 0 < cut.size
+  below : cut.size ≤ suc room
 
-positive-size : (shape : Shape) (n : ℕ) → Positive (record { shape = shape; size = suc n })
-positive-size shape n = record { above = omega arith }
+within-size : (room : ℕ) (shape : Shape) (n : ℕ) → n ≤ room → IsWithin room (record { shape = shape; size = suc n })
+within-size room shape n h = record { above = omega arith; below = omega arith }
 
-plain-positive : (c : ℕ) (cs : List ℕ) → Positive (plain_cut c cs)
+plain-within : (c : ℕ) (cs : List ℕ) → IsWithin (length cs) (plain_cut c cs)
 unfolding plain_cut
-plain-positive c cs = cond_both (is_blank c) _ _ Positive (λ _. positive-size Blank _) (λ _. cond_both (is_word c) _ _ Positive (λ _. positive-size Word _) (λ _. positive-size (Mark c) 0))
+plain-within c cs =
+    cond_both (is_blank c) _ _ (IsWithin (length cs)) (λ _. within-size (length cs) Blank _ (prefix_len-le-length is_blank cs))
+    (λ _. cond_both (is_word c) _ _ (IsWithin (length cs)) (λ _. within-size (length cs) Word _ (prefix_len-le-length is_word cs)) (λ _. within-size (length cs) (Mark c) 0 (omega arith)))
 
-quoted-positive : (cs : List ℕ) (n : Option ℕ) → Positive (quoted_cut cs n)
-quoted-positive cs None = positive-size Broken _
-quoted-positive cs (Some n) = positive-size Quoted _
+quoted-within : (c : ℕ) (cs : List ℕ) (n : Option ℕ) → closing c false cs ≡ n → IsWithin (length cs) (quoted_cut cs n)
+quoted-within c cs None e = within-size (length cs) Broken _ (omega arith)
+quoted-within c cs (Some n) e = let (k, f, l, q) = closing-place c false cs n e in within-size (length cs) Quoted n (omega arith)
 
-inner-positive : (c : ℕ) (cs : List ℕ) → Positive (inner_cut c cs)
+inner-within : (c : ℕ) (cs : List ℕ) → IsWithin (length cs) (inner_cut c cs)
 unfolding inner_cut
-inner-positive c cs = cond_both (is_quote c) _ _ Positive (λ _. quoted-positive cs (closing c false cs)) (λ _. plain-positive c cs)
+inner-within c cs = cond_both (is_quote c) _ _ (IsWithin (length cs)) (λ _. quoted-within c cs (closing c false cs) refl) (λ _. plain-within c cs)
 
-less-positive : (cs : List ℕ) → Positive (after_less cs)
-less-positive [] = positive-size _ 0
-less-positive (c ∷ cs) = cond_both (c == 60) _ _ Positive (λ _. positive-size _ 1) (λ _. cond_both (c == 61) _ _ Positive (λ _. positive-size _ 1) (λ _. positive-size _ 0))
+less-within : (cs : List ℕ) → IsWithin (length cs) (after_less cs)
+less-within [] = within-size 0 _ 0 (omega arith)
+less-within (c ∷ cs) =
+    cond_both (c == 60) _ _ (IsWithin (length (c ∷ cs))) (λ _. within-size (length (c ∷ cs)) _ 1 (omega arith))
+    (λ _. cond_both (c == 61) _ _ (IsWithin (length (c ∷ cs))) (λ _. within-size (length (c ∷ cs)) _ 1 (omega arith)) (λ _. within-size (length (c ∷ cs)) _ 0 (omega arith)))
 
-greater-positive : (cs : List ℕ) → Positive (after_greater cs)
-greater-positive [] = positive-size _ 0
-greater-positive (c ∷ cs) = cond_both (c == 61) _ _ Positive (λ _. positive-size _ 1) (λ _. cond_both (c == 62) _ _ Positive (λ _. positive-size _ 1) (λ _. positive-size _ 0))
+greater-within : (cs : List ℕ) → IsWithin (length cs) (after_greater cs)
+greater-within [] = within-size 0 _ 0 (omega arith)
+greater-within (c ∷ cs) =
+    cond_both (c == 61) _ _ (IsWithin (length (c ∷ cs))) (λ _. within-size (length (c ∷ cs)) _ 1 (omega arith))
+    (λ _. cond_both (c == 62) _ _ (IsWithin (length (c ∷ cs))) (λ _. within-size (length (c ∷ cs)) _ 1 (omega arith)) (λ _. within-size (length (c ∷ cs)) _ 0 (omega arith)))
 
-opening-positive : (c : ℕ) (cs : List ℕ) → Positive (opening_cut c cs)
+opening-within : (c : ℕ) (cs : List ℕ) → IsWithin (length cs) (opening_cut c cs)
 unfolding opening_cut
-opening-positive c cs =
-    cond_both (c == 61) _ _ Positive (λ _. positive-size _ 0) (λ _. cond_both (c == 37) _ _ Positive (λ _. positive-size _ 0) (λ _. cond_both (c == 126) _ _ Positive (λ _. positive-size _ 0)
-    (λ _. cond_both (c == 60) _ _ Positive (λ _. less-positive cs) (λ _. cond_both (c == 62) _ _ Positive (λ _. greater-positive cs) (λ _. inner-positive c cs)))))
+opening-within c cs =
+    let room = length cs in
+    cond_both (c == 61) _ _ (IsWithin room) (λ _. within-size room _ 0 (omega arith)) (λ _. cond_both (c == 37) _ _ (IsWithin room) (λ _. within-size room _ 0 (omega arith))
+    (λ _. cond_both (c == 126) _ _ (IsWithin room) (λ _. within-size room _ 0 (omega arith))
+    (λ _. cond_both (c == 60) _ _ (IsWithin room) (λ _. less-within cs) (λ _. cond_both (c == 62) _ _ (IsWithin room) (λ _. greater-within cs) (λ _. inner-within c cs)))))
+
+first-within : (place : Place) (c : ℕ) (cs : List ℕ) → IsWithin (length cs) (first_cut place c cs)
+first-within Outside c cs = plain-within c cs
+first-within BehindWord c cs = plain-within c cs
+first-within Opening c cs = opening-within c cs
+first-within Inside c cs = inner-within c cs
 
 pub first_cut-positive : (place : Place) (c : ℕ) (cs : List ℕ) → 0 < (first_cut place c cs).size
-first_cut-positive Outside c cs = (plain-positive c cs).above
-first_cut-positive BehindWord c cs = (plain-positive c cs).above
-first_cut-positive Opening c cs = (opening-positive c cs).above
-first_cut-positive Inside c cs = (inner-positive c cs).above
+first_cut-positive place c cs = (first-within place c cs).above
+
+pub first_cut-inside : (place : Place) (c : ℕ) (cs : List ℕ) → (first_cut place c cs).size ≤ suc (length cs)
+first_cut-inside place c cs = (first-within place c cs).below
 
 -- how many pieces may come at most makes no difference
 pub cuts_enough : (n m : ℕ) (place : Place) (text : List ℕ) → length text ≤ n → length text ≤ m → cuts n place text ≡ cuts m place text

@@ -9,3 +9,5 @@ pub mod LevelFacts
 pub mod Cuts
 pub mod Turns
 pub mod Laws
+pub mod Lexing
+pub mod Fronts
