@@ -327,7 +327,7 @@ any-result most ps t h =
     ap (λ qs. result_of (start most) qs) (sym (append-nil ps)) ∙ reads [] tt ∙ finished l ∙ ap (λ u. Some u) same
 
 -- tokens without gaps read as the pieces do
-behind-result : (s : State) (p : Token) (ts : List Token) → result_of s (behind p ts) ≡ (let r : Option Tree = elim (step s p) [ goes u ↦ result_of u ts | stops kind ↦ None ] in r)
+pub behind-result : (s : State) (p : Token) (ts : List Token) → result_of s (behind p ts) ≡ (let r : Option Tree = elim (step s p) [ goes u ↦ result_of u ts | stops kind ↦ None ] in r)
 unfolding step
 behind-result s gap ts = refl
 behind-result s p ts = refl

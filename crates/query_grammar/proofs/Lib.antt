@@ -11,3 +11,4 @@ pub mod Turns
 pub mod Laws
 pub mod Lexing
 pub mod Fronts
+pub mod Reach

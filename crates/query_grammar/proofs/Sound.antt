@@ -171,7 +171,7 @@ finish_next_holds most room at outer l Having ps before here e a h = finish_havi
 finish_next_holds most room at outer l (Within b) ps before here e a (front, term, f, r, g) =
     finish_progress_holds most room at outer l ps before front term (at_end b) (e ∙ ap (λ qs. before ++ qs) f) a r (at_end-ends b term g)
 
-behind_append : (p : Token) (ts : List Token) → behind p [] ++ ts ≡ behind p ts
+pub behind_append : (p : Token) (ts : List Token) → behind p [] ++ ts ≡ behind p ts
 behind_append gap ts = refl
 behind_append p ts = refl
 

@@ -5,3 +5,4 @@ pub mod Grammar
 pub mod Reading
 pub mod Views
 pub mod Answers
+pub mod Places
