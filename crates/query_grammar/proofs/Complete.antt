@@ -30,7 +30,7 @@ result_of s (p ∷ ps) = elim (step s p) [ goes t ↦ result_of t ps | stops kin
 abbrev pub state : List Level → Level → Next → State
 state outer l next = record { outer = outer; level = l; next = next }
 
-result-step : (s t : State) (p : Token) (ps : List Token) → step s p ≡ goes t → result_of s (p ∷ ps) ≡ result_of t ps
+pub result-step : (s t : State) (p : Token) (ps : List Token) → step s p ≡ goes t → result_of s (p ∷ ps) ≡ result_of t ps
 result-step s t p ps e = ap (λ n. let r : Option Tree = elim n [ goes u ↦ result_of u ps | stops kind ↦ None ] in r) e
 
 -- what may follow a whole member
@@ -40,11 +40,11 @@ Follows (mark c ∷ ts) = (c ≡ 44) ⊎ ((c ≡ 124) ⊎ (c ≡ 41))
 Follows (p ∷ ts) = ⊥
 
 -- a term that is whole where a member may be followed
-record Pauses (b : Begun) (t : Tree) : Type 0 where
-  at_end_of_text : at_end b ≡ ended t
-  at_comma : progress b (mark 44) ≡ ended t
-  at_bar : progress b (mark 124) ≡ ended t
-  at_close : progress b (mark 41) ≡ ended t
+pub record Pauses (b : Begun) (t : Tree) : Type 0 where
+  pub at_end_of_text : at_end b ≡ ended t
+  pub at_comma : progress b (mark 44) ≡ ended t
+  pub at_bar : progress b (mark 124) ≡ ended t
+  pub at_close : progress b (mark 41) ≡ ended t
 
 module _ (outer : List Level) (l : Level) where
   paused-mark : (b : Begun) (t : Tree) (c : ℕ) (ts : List Token) → progress b (mark c) ≡ ended t → result_of (state outer l (Within b)) (mark c ∷ ts) ≡ result_of (having_one outer l t) (mark c ∷ ts)
@@ -60,7 +60,7 @@ module _ (outer : List Level) (l : Level) where
   unfolding finish
   paused-end b t e = ap (λ n. tree_read (finish_progress 0 outer l n)) e
 
-  paused : (b : Begun) (t : Tree) (ts : List Token) → Pauses b t → Follows ts → result_of (state outer l (Within b)) ts ≡ result_of (having_one outer l t) ts
+  pub paused : (b : Begun) (t : Tree) (ts : List Token) → Pauses b t → Follows ts → result_of (state outer l (Within b)) ts ≡ result_of (having_one outer l t) ts
   paused b t [] p f = paused-end b t p.at_end_of_text
   paused b t (mark c ∷ ts) p f = paused-mark b t c ts (paused-at b t c ts p f)
   paused b t (gap ∷ ts) p f = absurd f
@@ -71,51 +71,51 @@ module _ (outer : List Level) (l : Level) where
   paused b t (broken ∷ ts) p f = absurd f
 
   -- a term goes on
-  on-word : (b c : Begun) (w : List ℕ) (ts : List Token) → progress b (word w) ≡ goes_on c → result_of (state outer l (Within b)) (word w ∷ ts) ≡ result_of (state outer l (Within c)) ts
+  pub on-word : (b c : Begun) (w : List ℕ) (ts : List Token) → progress b (word w) ≡ goes_on c → result_of (state outer l (Within b)) (word w ∷ ts) ≡ result_of (state outer l (Within c)) ts
   unfolding step
   on-word b c w ts e = ap (λ n. let r : Option Tree = elim (step_progress outer l (word w) n) [ goes u ↦ result_of u ts | stops kind ↦ None ] in r) e
 
-  on-quoted : (b c : Begun) (w : List ℕ) (ts : List Token) → progress b (quoted w) ≡ goes_on c → result_of (state outer l (Within b)) (quoted w ∷ ts) ≡ result_of (state outer l (Within c)) ts
+  pub on-quoted : (b c : Begun) (w : List ℕ) (ts : List Token) → progress b (quoted w) ≡ goes_on c → result_of (state outer l (Within b)) (quoted w ∷ ts) ≡ result_of (state outer l (Within c)) ts
   unfolding step
   on-quoted b c w ts e = ap (λ n. let r : Option Tree = elim (step_progress outer l (quoted w) n) [ goes u ↦ result_of u ts | stops kind ↦ None ] in r) e
 
-  on-operator : (b c : Begun) (how : Test) (ts : List Token) → progress b (operator how) ≡ goes_on c → result_of (state outer l (Within b)) (operator how ∷ ts) ≡ result_of (state outer l (Within c)) ts
+  pub on-operator : (b c : Begun) (how : Test) (ts : List Token) → progress b (operator how) ≡ goes_on c → result_of (state outer l (Within b)) (operator how ∷ ts) ≡ result_of (state outer l (Within c)) ts
   unfolding step
   on-operator b c how ts e = ap (λ n. let r : Option Tree = elim (step_progress outer l (operator how) n) [ goes u ↦ result_of u ts | stops kind ↦ None ] in r) e
 
-  on-mark : (b c : Begun) (m : ℕ) (ts : List Token) → progress b (mark m) ≡ goes_on c → result_of (state outer l (Within b)) (mark m ∷ ts) ≡ result_of (state outer l (Within c)) ts
+  pub on-mark : (b c : Begun) (m : ℕ) (ts : List Token) → progress b (mark m) ≡ goes_on c → result_of (state outer l (Within b)) (mark m ∷ ts) ≡ result_of (state outer l (Within c)) ts
   unfolding step
   on-mark b c m ts e = ap (λ n. let r : Option Tree = elim (step_progress outer l (mark m) n) [ goes u ↦ result_of u ts | stops kind ↦ None ] in r) e
 
-  ends-mark : (b : Begun) (t : Tree) (m : ℕ) (ts : List Token) → progress b (mark m) ≡ whole t → result_of (state outer l (Within b)) (mark m ∷ ts) ≡ result_of (having_one outer l t) ts
+  pub ends-mark : (b : Begun) (t : Tree) (m : ℕ) (ts : List Token) → progress b (mark m) ≡ whole t → result_of (state outer l (Within b)) (mark m ∷ ts) ≡ result_of (having_one outer l t) ts
   unfolding step
   ends-mark b t m ts e = ap (λ n. let r : Option Tree = elim (step_progress outer l (mark m) n) [ goes u ↦ result_of u ts | stops kind ↦ None ] in r) e
 
-  begins-word : (b : Begun) (w : List ℕ) (ts : List Token) → begun w ≡ goes_on b → result_of (state outer l Wanting) (word w ∷ ts) ≡ result_of (state outer l (Within b)) ts
+  pub begins-word : (b : Begun) (w : List ℕ) (ts : List Token) → begun w ≡ goes_on b → result_of (state outer l Wanting) (word w ∷ ts) ≡ result_of (state outer l (Within b)) ts
   unfolding step step_wanting
   begins-word b w ts e = ap (λ n. let r : Option Tree = elim (step_progress outer l (word w) n) [ goes u ↦ result_of u ts | stops kind ↦ None ] in r) e
 
-  whole-word : (t : Tree) (w : List ℕ) (ts : List Token) → begun w ≡ whole t → result_of (state outer l Wanting) (word w ∷ ts) ≡ result_of (having_one outer l t) ts
+  pub whole-word : (t : Tree) (w : List ℕ) (ts : List Token) → begun w ≡ whole t → result_of (state outer l Wanting) (word w ∷ ts) ≡ result_of (having_one outer l t) ts
   unfolding step step_wanting
   whole-word t w ts e = ap (λ n. let r : Option Tree = elim (step_progress outer l (word w) n) [ goes u ↦ result_of u ts | stops kind ↦ None ] in r) e
 
-pauses-package : (name : List ℕ) → Pauses (so_far.Package name) (wanted name None None)
+pub pauses-package : (name : List ℕ) → Pauses (so_far.Package name) (wanted name None None)
 unfolding progress at_end
 pauses-package name = record { at_end_of_text = refl; at_comma = refl; at_bar = refl; at_close = refl }
 
-pauses-related : (name : List ℕ) (asked : Relation) (version : List ℕ) → Pauses (so_far.Related name asked version) (wanted name (Some (asked, version)) None)
+pub pauses-related : (name : List ℕ) (asked : Relation) (version : List ℕ) → Pauses (so_far.Related name asked version) (wanted name (Some (asked, version)) None)
 unfolding progress at_end
 pauses-related name asked version = record { at_end_of_text = refl; at_comma = refl; at_bar = refl; at_close = refl }
 
-pauses-field : (name : List ℕ) → Pauses (so_far.Field name) (field name None)
+pub pauses-field : (name : List ℕ) → Pauses (so_far.Field name) (field name None)
 unfolding progress at_end
 pauses-field name = record { at_end_of_text = refl; at_comma = refl; at_bar = refl; at_close = refl }
 
-opened-version : (name version : List ℕ) → IsTrue (is_version version) → progress (so_far.PackageOpened name) (word version) ≡ goes_on (so_far.Versioned name relation.Equal version)
+pub opened-version : (name version : List ℕ) → IsTrue (is_version version) → progress (so_far.PackageOpened name) (word version) ≡ goes_on (so_far.Versioned name relation.Equal version)
 unfolding progress
 opened-version name version v = ap (λ c. cond c (goes_on (so_far.Versioned name relation.Equal version)) (wrong QueryKind_is.BadVersion)) v
 
-compared-version : (name : List ℕ) (asked : Relation) (version : List ℕ) → IsTrue (is_version version) → progress (so_far.Compared name asked) (word version) ≡ goes_on (so_far.Versioned name asked version)
+pub compared-version : (name : List ℕ) (asked : Relation) (version : List ℕ) → IsTrue (is_version version) → progress (so_far.Compared name asked) (word version) ≡ goes_on (so_far.Versioned name asked version)
 unfolding progress
 compared-version name asked version v = ap (λ c. cond c (goes_on (so_far.Versioned name asked version)) (wrong QueryKind_is.BadVersion)) v
 
@@ -123,22 +123,22 @@ operator-progress : (name : List ℕ) (how : Test) (asked : Relation) → relati
 unfolding progress
 operator-progress name how asked e = ap (λ o. compared name o) e
 
-arch-progress : (name : List ℕ) (asked : Option (Relation × List ℕ)) (arch : List ℕ) → IsTrue (is_arch arch) → progress (so_far.Braced name asked) (word arch) ≡ goes_on (so_far.Bound name asked arch)
+pub arch-progress : (name : List ℕ) (asked : Option (Relation × List ℕ)) (arch : List ℕ) → IsTrue (is_arch arch) → progress (so_far.Braced name asked) (word arch) ≡ goes_on (so_far.Bound name asked arch)
 unfolding progress
 arch-progress name asked arch a = ap (λ c. cond c (goes_on (so_far.Bound name asked arch)) (wrong QueryKind_is.WantValue)) a
 
-value-progress : (name : List ℕ) (how : Test) (p : Token) (value : List ℕ) → IsValue p value → IsTrue (may_test name how value) → progress (so_far.Tested name how) p ≡ goes_on (so_far.Valued name how value)
+pub value-progress : (name : List ℕ) (how : Test) (p : Token) (value : List ℕ) → IsValue p value → IsTrue (may_test name how value) → progress (so_far.Tested name how) p ≡ goes_on (so_far.Valued name how value)
 unfolding progress
 value-progress name how p value (inl e) v = ap (λ q. value_at name how q) e ∙ ap (λ c. cond c (goes_on (so_far.Valued name how value)) (wrong QueryKind_is.BadVersion)) v
 value-progress name how p value (inr e) v = ap (λ q. value_at name how q) e ∙ ap (λ c. cond c (goes_on (so_far.Valued name how value)) (wrong QueryKind_is.BadVersion)) v
 
-opened-value : (name : List ℕ) (p : Token) (value : List ℕ) → IsValue p value → IsTrue (may_test name test.Equal value) → progress (so_far.FieldOpened name) p ≡ goes_on (so_far.Valued name test.Equal value)
+pub opened-value : (name : List ℕ) (p : Token) (value : List ℕ) → IsValue p value → IsTrue (may_test name test.Equal value) → progress (so_far.FieldOpened name) p ≡ goes_on (so_far.Valued name test.Equal value)
 unfolding progress
 opened-value name p value (inl e) v = ap (λ q. test_at name q) e ∙ ap (λ c. cond c (goes_on (so_far.Valued name test.Equal value)) (wrong QueryKind_is.BadVersion)) v
 opened-value name p value (inr e) v = ap (λ q. test_at name q) e ∙ ap (λ c. cond c (goes_on (so_far.Valued name test.Equal value)) (wrong QueryKind_is.BadVersion)) v
 
 module _ (outer : List Level) (l : Level) where
-  on-value : (b c : Begun) (p : Token) (value : List ℕ) (ts : List Token) → IsValue p value → progress b p ≡ goes_on c → result_of (state outer l (Within b)) (p ∷ ts) ≡ result_of (state outer l (Within c)) ts
+  pub on-value : (b c : Begun) (p : Token) (value : List ℕ) (ts : List Token) → IsValue p value → progress b p ≡ goes_on c → result_of (state outer l (Within b)) (p ∷ ts) ≡ result_of (state outer l (Within c)) ts
   on-value b c p value ts (inl e) h =
       ap (λ q. result_of (state outer l (Within b)) (q ∷ ts)) e ∙ on-word outer l b c value ts (ap (λ q. progress b q) (sym e) ∙ h)
   on-value b c p value ts (inr e) h =
@@ -216,15 +216,15 @@ abbrev level_of : List Tree → List Tree → ℕ → Level
 level_of alternatives members room = record { alternatives = alternatives; members = members; negations = 0; room = room }
 
 -- a `,`, a `|` or a `)` behind a whole member
-comma : (outer : List Level) (l : Level) (ts : List Token) → result_of (state outer l Having) (mark 44 ∷ ts) ≡ result_of (state outer l Wanting) ts
+pub comma : (outer : List Level) (l : Level) (ts : List Token) → result_of (state outer l Having) (mark 44 ∷ ts) ≡ result_of (state outer l Wanting) ts
 unfolding step step_having
 comma outer l ts = refl
 
-bar : (outer : List Level) (l : Level) (ts : List Token) → result_of (state outer l Having) (mark 124 ∷ ts) ≡ result_of (state outer (with_alternative l) Wanting) ts
+pub bar : (outer : List Level) (l : Level) (ts : List Token) → result_of (state outer l Having) (mark 124 ∷ ts) ≡ result_of (state outer (with_alternative l) Wanting) ts
 unfolding step step_having
 bar outer l ts = refl
 
-close : (outer : List Level) (o l : Level) (ts : List Token) → result_of (state (o ∷ outer) l Having) (mark 41 ∷ ts) ≡ result_of (having_one outer o (whole_level l)) ts
+pub close : (outer : List Level) (o l : Level) (ts : List Token) → result_of (state (o ∷ outer) l Having) (mark 41 ∷ ts) ≡ result_of (having_one outer o (whole_level l)) ts
 unfolding step step_having
 close outer o l ts = refl
 

@@ -12,3 +12,4 @@ pub mod Laws
 pub mod Lexing
 pub mod Fronts
 pub mod Reach
+pub mod Viable
