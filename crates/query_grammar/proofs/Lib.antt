@@ -13,3 +13,5 @@ pub mod Lexing
 pub mod Fronts
 pub mod Reach
 pub mod Viable
+pub mod Ends
+pub mod PlaceOf
