@@ -23,11 +23,16 @@ cuts_front (suc n) place (c ∷ cs) h =
     let inside : cut.size ≤ length (c ∷ cs) = omega (arith, first_cut-inside place c cs) in
     let size : length (take cut.size (c ∷ cs)) ≡ cut.size = length-take-le cut.size (c ∷ cs) inside in
     let (text, front) = cuts_front n (next_place place cut.shape) (drop cut.size (c ∷ cs)) (omega (arith, length-drop cut.size (c ∷ cs), first_cut-positive place c cs)) in
-    let whole : take cut.size (c ∷ cs) ++ drop cut.size (c ∷ cs) ≡ c ∷ cs = take-append-drop cut.size (c ∷ cs) in
-    (ap (λ xs. take cut.size (c ∷ cs) ++ xs) text ∙ whole,
-     ((omega (arith, first_cut-positive place c cs),
-       ap (λ xs. cut_of place (take cut.size (c ∷ cs) ++ xs)) (append-nil _ ∙ text) ∙ ap (λ xs. cut_of place xs) whole ∙ ap (λ k. cut_as cut.shape k) (sym size)),
-      front))
+    let whole : take cut.size (c ∷ cs) ++ drop cut.size (c ∷ cs) ≡ c ∷ cs = take-append-drop cut.size (c ∷ cs) in (
+      ap (λ xs. take cut.size (c ∷ cs) ++ xs) text ∙ whole,
+      (
+        (
+          omega (arith, first_cut-positive place c cs),
+          ap (λ xs. cut_of place (take cut.size (c ∷ cs) ++ xs)) (append-nil _ ∙ text) ∙ ap (λ xs. cut_of place xs) whole ∙ ap (λ k. cut_as cut.shape k) (sym size),
+        ),
+        front,
+      ),
+    )
 
 pub front_split : (front back : List Piece) (place : Place) (rest : List ℕ) → FrontCut place (front ++ back) rest → FrontCut place front (joined back ++ rest) × FrontCut (place_after place front) back rest
 front_split [] back place rest h = (tt, h)
@@ -66,6 +71,7 @@ other_end (p ∷ []) place rest other s h l = (cut-local place p.shape p.bytes r
 other_end (p ∷ q ∷ ps) place rest other s h l =
     let more = joined ps ++ rest in
     let here : IsCut place p (q.bytes ++ more) = subst (λ xs. IsCut place p xs) (append_assoc q.bytes (joined ps) rest) h.0 in
-    let separates = same-first p.shape q.bytes more (joined ps ++ other) h.1.0.0 (cut-stops place p.shape p.bytes (q.bytes ++ more) here) in
-    (subst (λ xs. IsCut place p xs) (sym (append_assoc q.bytes (joined ps) other)) (cut-local place p.shape p.bytes (q.bytes ++ more) (q.bytes ++ (joined ps ++ other)) here s.0 separates),
-     other_end (q ∷ ps) (next_place place p.shape) rest other s.1 h.1 l)
+    let separates = same-first p.shape q.bytes more (joined ps ++ other) h.1.0.0 (cut-stops place p.shape p.bytes (q.bytes ++ more) here) in (
+      subst (λ xs. IsCut place p xs) (sym (append_assoc q.bytes (joined ps) other)) (cut-local place p.shape p.bytes (q.bytes ++ more) (q.bytes ++ (joined ps ++ other)) here s.0 separates),
+      other_end (q ∷ ps) (next_place place p.shape) rest other s.1 h.1 l,
+    )

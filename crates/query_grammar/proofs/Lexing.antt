@@ -62,14 +62,14 @@ unfolding plain_cut Local
 plain-local c xs rest other shape =
     both-cond (is_blank c) _ _ _ _ (Local shape (suc (length xs)) other)
     (λ _ e s n.
-      let is : Blank ≡ shape = ap (λ (k : Cut). k.shape) e in
-      let size : prefix_len is_blank (xs ++ rest) ≡ length xs = let f = ap (λ (k : Cut). k.size) e in omega arith in
-      λ i. cut_as (is i) (suc (run-local is_blank xs rest other size (subst (λ h. Separates h other) (sym is) n) i)))
+    let is : Blank ≡ shape = ap (λ (k : Cut). k.shape) e in
+    let size : prefix_len is_blank (xs ++ rest) ≡ length xs = let f = ap (λ (k : Cut). k.size) e in omega arith in
+    λ i. cut_as (is i) (suc (run-local is_blank xs rest other size (subst (λ h. Separates h other) (sym is) n) i)))
     (λ _. both-cond (is_word c) _ _ _ _ (Local shape (suc (length xs)) other)
     (λ _ e s n.
-      let is : Word ≡ shape = ap (λ (k : Cut). k.shape) e in
-      let size : prefix_len is_word (xs ++ rest) ≡ length xs = let f = ap (λ (k : Cut). k.size) e in omega arith in
-      λ i. cut_as (is i) (suc (run-local is_word xs rest other size (subst (λ h. Separates h other) (sym is) n) i)))
+    let is : Word ≡ shape = ap (λ (k : Cut). k.shape) e in
+    let size : prefix_len is_word (xs ++ rest) ≡ length xs = let f = ap (λ (k : Cut). k.size) e in omega arith in
+    λ i. cut_as (is i) (suc (run-local is_word xs rest other size (subst (λ h. Separates h other) (sym is) n) i)))
     (λ _ e s n. e))
 
 one_more-back : (r : Option ℕ) (n : ℕ) → one_more r ≡ Some (suc n) → r ≡ Some n
@@ -148,16 +148,16 @@ unfolding plain_cut
 plain-stops c xs rest shape =
     cond_both (is_blank c) _ _ (λ k. k ≡ cut_as shape (suc (length xs)) → Separates shape rest)
     (λ _ e.
-      let is : Blank ≡ shape = ap (λ (k : Cut). k.shape) e in
-      let f = size-same _ shape _ _ e in
-      let size : prefix_len is_blank (xs ++ rest) ≡ length xs = omega arith in
-      subst (λ h. Separates h rest) is (run-stops is_blank xs rest size))
+    let is : Blank ≡ shape = ap (λ (k : Cut). k.shape) e in
+    let f = size-same _ shape _ _ e in
+    let size : prefix_len is_blank (xs ++ rest) ≡ length xs = omega arith in
+    subst (λ h. Separates h rest) is (run-stops is_blank xs rest size))
     (λ _. cond_both (is_word c) _ _ (λ k. k ≡ cut_as shape (suc (length xs)) → Separates shape rest)
     (λ _ e.
-      let is : Word ≡ shape = ap (λ (k : Cut). k.shape) e in
-      let f = size-same _ shape _ _ e in
-      let size : prefix_len is_word (xs ++ rest) ≡ length xs = omega arith in
-      subst (λ h. Separates h rest) is (run-stops is_word xs rest size))
+    let is : Word ≡ shape = ap (λ (k : Cut). k.shape) e in
+    let f = size-same _ shape _ _ e in
+    let size : prefix_len is_word (xs ++ rest) ≡ length xs = omega arith in
+    subst (λ h. Separates h rest) is (run-stops is_word xs rest size))
     (λ _ e. subst (λ h. Separates h rest) (ap (λ (k : Cut). k.shape) e) tt))
 
 quoted-stops : (xs rest : List ℕ) (n : Option ℕ) (shape : Shape) (m : ℕ) → quoted_cut xs n ≡ cut_as shape m → Separates shape rest

@@ -281,6 +281,7 @@ module _ (front : List Piece) (bytes : List ℕ) where
       negation : (n : ℕ) → StepAt (begin_negation outer l n) (next_place place (Mark c)) (front ++ piece (Mark c) bytes ∷ [])
       negation zero = tt
       negation (suc n) = (outside-mark place c e, open-mark front c bytes)
+
       group : (n : ℕ) → StepAt (begin_group outer l n) (next_place place (Mark c)) (front ++ piece (Mark c) bytes ∷ [])
       group zero = tt
       group (suc n) = (outside-mark place c e, open-mark front c bytes)

@@ -116,8 +116,8 @@ reach-step levels front s t p r e =
     record {
       stands = subst (λ ts. Stands levels t ts) (sym (tokens-append front (p ∷ []))) (subst (λ n. StepHolds levels (tokens front ++ behind here []) n) e (step_holds levels s (tokens front) here r.stands));
       walks = λ more.
-        ap (λ ps. result_of (start levels) (tokens ps)) (append_assoc front (p ∷ []) more) ∙ r.walks (p ∷ more)
-        ∙ behind-result s here (tokens more) ∙ ap (λ n. let got : Option Tree = elim n [ goes u ↦ result_of u (tokens more) | stops kind ↦ None ] in got) e;
+          ap (λ ps. result_of (start levels) (tokens ps)) (append_assoc front (p ∷ []) more) ∙ r.walks (p ∷ more)
+          ∙ behind-result s here (tokens more) ∙ ap (λ n. let got : Option Tree = elim n [ goes u ↦ result_of u (tokens more) | stops kind ↦ None ] in got) e;
       joint = subst (λ place. NextAt t.next place (front ++ p ∷ [])) (sym (place_after-push Outside front p)) (subst (λ n. StepAt n (next_place (place_after Outside front) p.shape) (front ++ p ∷ [])) e (step-at front p.bytes s (place_after Outside front) p.shape r.joint));
       sound = AllSound-push front p r.sound (sound-goes s t p.shape p.bytes e);
     }

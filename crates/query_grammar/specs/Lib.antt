@@ -6,3 +6,4 @@ pub mod Reading
 pub mod Views
 pub mod Answers
 pub mod Places
+pub mod Written

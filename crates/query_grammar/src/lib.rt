@@ -2,6 +2,7 @@
 #![tactic(auto)]
 
 mod begin;
+mod copy;
 mod fault;
 mod level;
 mod piece;
@@ -11,6 +12,7 @@ mod reader;
 mod term;
 mod value;
 mod words;
+mod write;
 
 pub use fault::{QueryFault, QueryKind};
 pub use query::{Query, Test};

@@ -7,6 +7,7 @@ use Rattle.query_grammar.specs.Grammar.{QueryText}
 use Rattle.query_grammar.specs.Reading.{Reading, tree, fault, reading}
 use Rattle.query_grammar.specs.Views.{Reads}
 use Rattle.query_grammar.specs.Answers.{IsTree, IsFilterFault}
+use Rattle.query_grammar.proofs.PlaceOf.{reading_place}
 use Rattle.query_grammar.proofs.Laws.{reading_found, reading_only}
 use Rattle.query_grammar.proofs.read.read_filter.Goals as goal
 
@@ -21,7 +22,7 @@ only text (Err OutOfMemory) t h q = tt
 
 which : (text : List ℕ) (r : Result Query QueryFault) → Reads r (reading text) → IfErr r (IsFilterFault text)
 which text (Ok query) h = tt
-which text (Err (At place kind)) h = h
+which text (Err (At place kind)) h = (reading_place text place kind h, h)
 which text (Err OutOfMemory) h = tt
 
 pub returns-clause-found : goal.returns-clause-found
