@@ -31,9 +31,12 @@ abbrev pub is_none : List ℕ → Bool
 is_none [] = true
 is_none (c ∷ cs) = false
 
+abbrev pub is_plain_character : ℕ → Bool
+is_plain_character c = is_word c && not (c == 92)
+
 -- one or more word characters without a backslash
 unfoldable pub is_plain : List ℕ → Bool
-is_plain value = not (is_none value) && list_all (λ c. is_word c && not (c == 92)) value
+is_plain value = not (is_none value) && list_all is_plain_character value
 
 -- a backslash before each `"` and each backslash
 abbrev pub escaped : List ℕ → List ℕ
