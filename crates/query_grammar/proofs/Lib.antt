@@ -15,3 +15,4 @@ pub mod Reach
 pub mod Viable
 pub mod Ends
 pub mod PlaceOf
+pub mod Shown

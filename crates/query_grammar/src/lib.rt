@@ -13,7 +13,9 @@ mod term;
 mod value;
 mod words;
 mod write;
+mod write_tree;
 
 pub use fault::{QueryFault, QueryKind};
 pub use query::{Query, Test};
 pub use read::{read_filter, read_query};
+pub use write_tree::write_query;

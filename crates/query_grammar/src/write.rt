@@ -12,7 +12,7 @@ use control_stanza::Text;
 use deb_version::{Relation, Version};
 use std::alloc::AllocError;
 
-fn put(out: &mut Vec<u8>, bytes: &[u8]) -> Result<(), AllocError>
+pub(crate) fn put(out: &mut Vec<u8>, bytes: &[u8]) -> Result<(), AllocError>
     ensures { OnOk result (out.new.items ≡ out.old.items ++ bytes.now) }
 {
     out.extend_from_slice(bytes)
@@ -140,7 +140,7 @@ fn put_field_test(out: &mut Vec<u8>, test: &Option<(Test, Text)>) -> Result<(), 
     }
 }
 
-fn put_reference(
+pub(crate) fn put_reference(
     out: &mut Vec<u8>,
     name: &Name,
     version: &Version,
@@ -155,7 +155,7 @@ fn put_reference(
     put(out, arch.as_str().as_bytes())
 }
 
-fn put_wanted(
+pub(crate) fn put_wanted(
     out: &mut Vec<u8>,
     name: &Name,
     relation: &Option<(Relation, Version)>,
@@ -168,7 +168,11 @@ fn put_wanted(
     put_arch(out, arch)
 }
 
-fn put_field(out: &mut Vec<u8>, field: &Text, test: &Option<(Test, Text)>) -> Result<(), AllocError>
+pub(crate) fn put_field(
+    out: &mut Vec<u8>,
+    field: &Text,
+    test: &Option<(Test, Text)>,
+) -> Result<(), AllocError>
     ensures { OnOk result (out.new.items ≡ out.old.items ++ (field.now ++ field_text test.now)) }
 {
     put(out, field.as_str().as_bytes())?;
