@@ -72,7 +72,7 @@ plain-local c xs rest other shape =
     λ i. cut_as (is i) (suc (run-local is_word xs rest other size (subst (λ h. Separates h other) (sym is) n) i)))
     (λ _ e s n. e))
 
-one_more-back : (r : Option ℕ) (n : ℕ) → one_more r ≡ Some (suc n) → r ≡ Some n
+pub one_more-back : (r : Option ℕ) (n : ℕ) → one_more r ≡ Some (suc n) → r ≡ Some n
 one_more-back None n e = cc
 one_more-back (Some m) n e = let f : suc m ≡ suc n = cc in let g : m ≡ n = omega arith in ap (λ k. Some k) g
 
@@ -103,7 +103,7 @@ inner-local c xs rest other shape =
 lone-alone : (shape : Shape) (n : ℕ) (cut : Cut) → cut_as Lone n ≡ cut_as shape 1 → IsSound shape → ⊥
 lone-alone shape n cut e s = subst IsSound (sym (ap (λ (k : Cut). k.shape) e)) s
 
-size-same : (a b : Shape) (m n : ℕ) → cut_as a m ≡ cut_as b n → m ≡ n
+pub size-same : (a b : Shape) (m n : ℕ) → cut_as a m ≡ cut_as b n → m ≡ n
 size-same a b m n e = ap (λ (k : Cut). k.size) e
 
 two-one : (a shape : Shape) → cut_as a 2 ≡ cut_as shape 1 → ⊥

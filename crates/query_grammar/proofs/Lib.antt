@@ -16,3 +16,4 @@ pub mod Viable
 pub mod Ends
 pub mod PlaceOf
 pub mod Shown
+pub mod Lexed

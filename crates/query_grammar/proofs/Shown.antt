@@ -91,7 +91,7 @@ quote_low : is_control 34 ≡ false
 unfolding is_control
 quote_low = refl
 
-backslash_low : is_control 92 ≡ false
+pub backslash_low : is_control 92 ≡ false
 unfolding is_control
 backslash_low = refl
 
