@@ -17,3 +17,4 @@ pub mod Ends
 pub mod PlaceOf
 pub mod Shown
 pub mod Lexed
+pub mod Again

@@ -19,7 +19,7 @@ pub record IsRun (text : List ℕ) : Type 0 where
   pub some : 0 < length text
   pub each : list_all is_word text ≡ true
 
-word-no_blank : (c : ℕ) → is_word c ≡ true → is_blank c ≡ false
+pub word-no_blank : (c : ℕ) → is_word c ≡ true → is_blank c ≡ false
 unfolding is_word
 word-no_blank c h = grind (arith, nat_tests)
 
