@@ -18,3 +18,4 @@ pub mod PlaceOf
 pub mod Shown
 pub mod Lexed
 pub mod Again
+pub mod Round
