@@ -133,6 +133,175 @@ bar-separator = record {
   is_mark = refl;
 }
 
--- a member, a mark and the members behind it
-ListShows : ℕ → (List Token → Tree → Type 0) → List ℕ → List Tree → Type 0
-ListShows c R text ts = (t : Tree) × Shows (λ ps _. Between c R ps ts) text t
+-- pieces that a text is cut into and that spell members with a mark between each two
+abbrev ListOf : ℕ → (List Token → Tree → Type 0) → List Tree → List ℕ → Type 0
+ListOf c R ts text = Shows (λ ps u. Between c R ps ts) text (all nil)
+
+list-cons : (c : ℕ) (sep : List Piece) (R : List Token → Tree → Type 0) (text more : List ℕ) (t : Tree) (ts : List Tree) → Separator c sep → Shows R text t → ListOf c R ts more → ListOf c R (t ∷ ts) (text ++ (joined sep ++ more))
+list-cons c sep R text more t ts between s m = record {
+  pieces = s.pieces ++ (sep ++ m.pieces);
+  texts =
+    joined-append s.pieces (sep ++ m.pieces) ∙ ap (λ xs. xs ++ joined (sep ++ m.pieces)) s.texts
+    ∙ ap (λ xs. text ++ xs) (joined-append sep m.pieces ∙ ap (λ xs. joined sep ++ xs) m.texts);
+  begins = λ rest.
+    subst (λ xs. NotFirst is_blank xs) (sym (ap (λ xs. xs ++ rest) (joined-append s.pieces (sep ++ m.pieces)) ∙ append_assoc (joined s.pieces) (joined (sep ++ m.pieces)) rest)) (s.begins (joined (sep ++ m.pieces) ++ rest));
+  cut = λ rest n.
+    let later : joined (sep ++ m.pieces) ++ rest ≡ joined sep ++ (joined m.pieces ++ rest) = ap (λ xs. xs ++ rest) (joined-append sep m.pieces) ∙ append_assoc (joined sep) (joined m.pieces) rest in
+    let place = place_after Outside s.pieces in
+    front_join s.pieces (sep ++ m.pieces) Outside rest (s.cut (joined (sep ++ m.pieces) ++ rest) (subst (λ xs. NotFirst is_word xs) (sym later) (between.no_word (joined m.pieces ++ rest))))
+    (front_join sep m.pieces place rest (between.cut place (joined m.pieces ++ rest) s.after (m.begins rest)) (subst (λ q. FrontCut q m.pieces rest) (sym (between.after place s.after)) (m.cut rest n)));
+  after =
+    subst IsOuter
+    (sym (place_after-append Outside s.pieces (sep ++ m.pieces) ∙ place_after-append (place_after Outside s.pieces) sep m.pieces ∙ ap (λ q. place_after q m.pieces) (between.after (place_after Outside s.pieces) s.after)))
+    m.after;
+  spells =
+    subst (λ qs. Between c R qs (t ∷ ts))
+    (sym (tokens-append s.pieces (sep ++ m.pieces) ∙ ap (λ qs. tokens s.pieces ++ qs) (tokens-append sep m.pieces ∙ ap (λ qs. qs ++ tokens m.pieces) between.is_mark)))
+    (Between-cons c R (tokens s.pieces) (tokens m.pieces) t ts s.spells m.spells);
+}
+
+list-one : (c : ℕ) (R : List Token → Tree → Type 0) (text : List ℕ) (t : Tree) → Shows R text t → ListOf c R (t ∷ []) (text ++ [])
+list-one c R text t s = record {
+  pieces = s.pieces;
+  texts = s.texts ∙ sym (append-nil text);
+  begins = s.begins;
+  cut = s.cut;
+  after = s.after;
+  spells = single c R (tokens s.pieces) t s.spells;
+}
+
+-- each tree with such a text
+abbrev Each : (List Token → Tree → Type 0) → (Tree → List ℕ) → List Tree → Type 0
+Each R text [] = Unit {0}
+Each R text (t ∷ ts) = Shows R (text t) t × Each R text ts
+
+abbrev member_text : Tree → List ℕ
+member_text t = in_parentheses (is_any t || is_all t) (written t)
+
+abbrev alternative_text : Tree → List ℕ
+alternative_text t = in_parentheses (is_any t) (written t)
+
+members-list : (R : List Token → Tree → Type 0) (ts : List Tree) (t : Tree) → Shows R (member_text t) t → Each R member_text ts → ListOf 44 R (t ∷ ts) (members (listed (t ∷ ts)))
+members-list R [] t s e = list-one 44 R (member_text t) t s
+members-list R (u ∷ us) t s e = list-cons 44 (sign 44 ∷ space ∷ []) R (member_text t) (members (listed (u ∷ us))) t (u ∷ us) comma-separator s (members-list R us u e.0 e.1)
+
+alternatives-list : (R : List Token → Tree → Type 0) (ts : List Tree) (t : Tree) → Shows R (alternative_text t) t → Each R alternative_text ts → ListOf 124 R (t ∷ ts) (alternatives (listed (t ∷ ts)))
+alternatives-list R [] t s e = list-one 124 R (alternative_text t) t s
+alternatives-list R (u ∷ us) t s e = list-cons 124 (space ∷ sign 124 ∷ space ∷ []) R (alternative_text t) (alternatives (listed (u ∷ us))) t (u ∷ us) bar-separator s (alternatives-list R us u e.0 e.1)
+
+-- parentheses, and a `!`
+enclosed : (n : ℕ) (text : List ℕ) (t : Tree) → Shows (AnyOf (One n)) text t → Shows (One (suc n)) (40 ∷ (text ++ 41 ∷ [])) t
+unfolding is_word special
+enclosed n text t s = record {
+  pieces = sign 40 ∷ (s.pieces ++ sign 41 ∷ []);
+  texts = ap (λ xs. 40 ∷ xs) (joined-append s.pieces (sign 41 ∷ []) ∙ ap (λ xs. xs ++ 41 ∷ []) s.texts);
+  begins = λ rest. refl;
+  cut = λ rest m.
+    (outer-sign Outside 40 (joined (s.pieces ++ sign 41 ∷ []) ++ rest) tt refl refl,
+     front_join s.pieces (sign 41 ∷ []) Outside rest (s.cut (41 ∷ rest) refl) (outer-sign (place_after Outside s.pieces) 41 rest s.after refl refl, tt));
+  after = subst IsOuter (sym (place_after-append Outside s.pieces (sign 41 ∷ []) ∙ sign-after (place_after Outside s.pieces) 41 s.after refl)) tt;
+  spells = inr (inr (tokens s.pieces, ap (λ qs. mark 40 ∷ qs) (tokens-append s.pieces (sign 41 ∷ [])), s.spells));
+}
+
+denied : (n : ℕ) (text : List ℕ) (u : Tree) → Shows (One n) text u → Shows (One (suc n)) (33 ∷ text) (negated u)
+unfolding is_word
+denied n text u s = record {
+  pieces = sign 33 ∷ s.pieces;
+  texts = ap (λ xs. 33 ∷ xs) s.texts;
+  begins = λ rest. refl;
+  cut = λ rest m. (outer-sign Outside 33 (joined s.pieces ++ rest) tt refl refl, s.cut rest m);
+  after = s.after;
+  spells = inr (inl (tokens s.pieces, u, refl, refl, s.spells));
+}
+
+-- a tree as a member, as an alternative and by itself
+record Triple (n : ℕ) (t : Tree) : Type 0 where
+  member : Shows (One n) (member_text t) t
+  alternative : Shows (AllOf (One n)) (alternative_text t) t
+  alone : Shows (AnyOf (One n)) (written t) t
+
+triple-more : (n : ℕ) (t : Tree) → Triple n t → Triple (suc n) t
+triple-more n t r = record {
+  member = weaker (One n) (One (suc n)) (member_text t) t t r.member (λ ts h. One-more n ts t h);
+  alternative = weaker (AllOf (One n)) (AllOf (One (suc n))) (alternative_text t) t t r.alternative (λ ts h. AllOf-map (One n) (One (suc n)) ts t (One-more n) h);
+  alone = weaker (AnyOf (One n)) (AnyOf (One (suc n))) (written t) t t r.alone (λ ts h. AnyOf-map (One n) (One (suc n)) ts t (One-more n) h);
+}
+
+-- a tree that is written without parentheses everywhere
+triple-bare : (n : ℕ) (t : Tree) → is_any t ≡ false → is_all t ≡ false → Shows (One n) (written t) t → Triple n t
+triple-bare n t a b s =
+    let bare : member_text t ≡ written t = ap (λ c. in_parentheses (c || is_all t) (written t)) a ∙ ap (λ c. in_parentheses c (written t)) b in
+    let same : alternative_text t ≡ written t = ap (λ c. in_parentheses c (written t)) a in
+    record {
+      member = subst (λ xs. Shows (One n) xs t) (sym bare) s;
+      alternative = subst (λ xs. Shows (AllOf (One n)) xs t) (sym same) (one-all (One n) (written t) t s);
+      alone = all-any (One n) (written t) t (one-all (One n) (written t) t s);
+    }
+
+term-kind : (ts : List Token) (t : Tree) → Term ts t → (is_any t ≡ false) × (is_all t ≡ false)
+term-kind ts (reference name version arch) h = (refl, refl)
+term-kind ts (wanted name asked arch) h = (refl, refl)
+term-kind ts (field name how) h = (refl, refl)
+term-kind ts (any us) h = absurd h
+term-kind ts (all us) h = absurd h
+term-kind ts (negated u) h = absurd h
+
+One-of-term : (n : ℕ) (ps : List Token) (t : Tree) → Term ps t → One n ps t
+One-of-term zero ps t h = h
+One-of-term (suc n) ps t h = inl h
+
+term-triple : (n : ℕ) (ts : List Token) (t : Tree) → Term ts t → AllLexed ts → Triple n t
+term-triple n ts t h l =
+    let kind = term-kind ts t h in
+    triple-bare n t kind.0 kind.1 (weaker Term (One n) (written t) t t (term-shows ts t h l) (λ qs g. One-of-term n qs t g))
+
+-- the members that are spelled
+module _ (n : ℕ) (again : (ts : List Token) (t : Tree) → One n ts t → AllLexed ts → Triple n t) where
+  each-again : (ps : List Token) (ts : List Tree) → Followed 44 (One n) ps ts → AllLexed ps → Each (One n) member_text ts
+  each-again ps [] f l = tt
+  each-again ps (t ∷ ts) (front, rest, e, h, more) l =
+      let parts = lexed-split front (mark 44 ∷ rest) (subst AllLexed e l) in
+      ((again front t h parts.0).member, each-again rest ts more parts.1.1)
+
+  each-snoc : (R : List Token → Tree → Type 0) (text : Tree → List ℕ) (ts : List Tree) (t : Tree) → Each R text ts → Shows R (text t) t → Each R text (ts ++ t ∷ [])
+  each-snoc R text [] t e s = (s, tt)
+  each-snoc R text (u ∷ us) t e s = (e.0, each-snoc R text us t e.1 s)
+
+  -- an `all` of one or more members, as an alternative of an `any`
+  record Alternative (t : Tree) : Type 0 where
+    shown : Shows (AllOf (One n)) (alternative_text t) t
+    alone : Shows (AnyOf (One n)) (written t) t
+    deeper : Triple (suc n) t
+
+  all-again : (us : List Tree) → Each (One n) member_text us → ((u : Tree) → us ≡ u ∷ [] → Triple n u) → (us ≡ [] → ⊥) → Alternative (all_of us)
+  all-again [] e one some = absurd (some refl)
+  all-again (u ∷ []) e one some = let r = one u refl in record { shown = r.alternative; alone = r.alone; deeper = triple-more n u r }
+  all-again (u ∷ v ∷ us) e one some =
+      let ts = u ∷ v ∷ us in
+      let t = all (listed ts) in
+      let shown = weaker (λ ps x. Between 44 (One n) ps ts) (AllOf (One n)) (written t) (all nil) t (members-list (One n) (v ∷ us) u e.0 e.1) (λ qs b. (ts, b, refl)) in
+      let alone = all-any (One n) (written t) t shown in
+      record {
+        shown = shown;
+        alone = alone;
+        deeper = record {
+          member = enclosed n (written t) t alone;
+          alternative = weaker (AllOf (One n)) (AllOf (One (suc n))) (written t) t t shown (λ qs h. AllOf-map (One n) (One (suc n)) qs t (One-more n) h);
+          alone = weaker (AnyOf (One n)) (AnyOf (One (suc n))) (written t) t t alone (λ qs h. AnyOf-map (One n) (One (suc n)) qs t (One-more n) h);
+        };
+      }
+
+  alternative-again : (ps : List Token) (t : Tree) → AllOf (One n) ps t → AllLexed ps → Alternative t
+  alternative-again ps t (us, b, made) l =
+      let parts = lexed-split b.front b.last (subst AllLexed b.split l) in
+      let last = again b.last b.final b.end parts.1 in
+      let each = subst (λ vs. Each (One n) member_text vs) (sym b.trees) (each-snoc (One n) member_text b.firsts b.final (each-again b.front b.firsts b.each parts.0) last.member) in
+      subst Alternative (sym made) (all-again us each (λ u e. only b.firsts b.final u (sym b.trees ∙ e) last) (λ e. not-nil b.firsts b.final (sym b.trees ∙ e)))
+    where
+      only : (xs : List Tree) (x u : Tree) → xs ++ x ∷ [] ≡ u ∷ [] → Triple n x → Triple n u
+      only [] x u e r = let f : x ≡ u = cc in subst (Triple n) f r
+      only (y ∷ []) x u e r = cc
+      only (y ∷ z ∷ zs) x u e r = cc
+      not-nil : (xs : List Tree) (x : Tree) → xs ++ x ∷ [] ≡ [] → ⊥
+      not-nil [] x e = cc
+      not-nil (y ∷ ys) x e = cc
