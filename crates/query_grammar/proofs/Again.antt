@@ -85,11 +85,16 @@ unfolding plain_cut inner_cut is_word
 tested-cut how p rest b h e =
     let value = (p.bytes ++ 41 ∷ []) ++ rest in
     let inner = subst (λ xs. NotFirst is_blank xs) (sym (append_assoc p.bytes (41 ∷ []) rest)) b in
-    let text : (test_text how ++ (32 ∷ (p.bytes ++ 41 ∷ []))) ++ rest ≡ test_text how ++ (32 ∷ value) = append_assoc (test_text how) (32 ∷ (p.bytes ++ 41 ∷ [])) rest in
-    (behind-blank (40 ∷ ((test_text how ++ (32 ∷ (p.bytes ++ 41 ∷ []))) ++ rest)) refl,
-     ((lit< tt, refl),
-      (test-cut how value,
-       (inside-blank value inner, (h, subst (λ q. FrontCut q (sign 41 ∷ []) rest) (sym e) ((lit< tt, refl), tt))))))
+    let text : (test_text how ++ (32 ∷ (p.bytes ++ 41 ∷ []))) ++ rest ≡ test_text how ++ (32 ∷ value) = append_assoc (test_text how) (32 ∷ (p.bytes ++ 41 ∷ [])) rest in (
+      behind-blank (40 ∷ ((test_text how ++ (32 ∷ (p.bytes ++ 41 ∷ []))) ++ rest)) refl,
+      (
+        (lit< tt, refl),
+        (
+          test-cut how value,
+          (inside-blank value inner, (h, subst (λ q. FrontCut q (sign 41 ∷ []) rest) (sym e) ((lit< tt, refl), tt))),
+        ),
+      ),
+    )
 
 tested-after : (how : Test) (p : Piece) → next_place Inside p.shape ≡ Inside → place_after BehindWord (tested_pieces how p) ≡ Outside
 tested-after how p e = ap (λ q. next_place q (Mark 41)) e
@@ -262,11 +267,12 @@ wanted-shows name asked arch front back n run r lr b lb =
       texts = ap (λ xs. name ++ xs) (joined-append rel bound ∙ ap (λ xs. xs ++ joined bound) (related-texts asked) ∙ ap (λ xs. relation_text asked ++ xs) (arch-texts arch));
       begins = λ rest. subst (λ xs. NotFirst is_blank xs) (sym (append_assoc name (joined (rel ++ bound)) rest)) (run-begins name (joined (rel ++ bound) ++ rest) run);
       cut = λ rest m.
-        let later = no_word-pieces bound rest (arch-first arch) m in
-        let text : joined (rel ++ bound) ++ rest ≡ joined rel ++ (joined bound ++ rest) = ap (λ xs. xs ++ rest) (joined-append rel bound) ∙ append_assoc (joined rel) (joined bound) rest in
-        let parts = related-cut asked front (joined bound ++ rest) r lr in
-        (outer-run-cut Outside name (joined (rel ++ bound) ++ rest) (inl refl) run (subst (λ xs. NotFirst is_word xs) (sym text) (no_word-pieces rel (joined bound ++ rest) (related-first asked) later)),
-         front_join rel bound BehindWord rest parts.0 (arch-cut arch _ rest parts.1 (arch-run arch back b lb)));
+          let later = no_word-pieces bound rest (arch-first arch) m in
+          let text : joined (rel ++ bound) ++ rest ≡ joined rel ++ (joined bound ++ rest) = ap (λ xs. xs ++ rest) (joined-append rel bound) ∙ append_assoc (joined rel) (joined bound) rest in
+          let parts = related-cut asked front (joined bound ++ rest) r lr in (
+            outer-run-cut Outside name (joined (rel ++ bound) ++ rest) (inl refl) run (subst (λ xs. NotFirst is_word xs) (sym text) (no_word-pieces rel (joined bound ++ rest) (related-first asked) later)),
+            front_join rel bound BehindWord rest parts.0 (arch-cut arch _ rest parts.1 (arch-run arch back b lb)),
+          );
       after = subst IsOuter (sym (place_after-append BehindWord rel bound)) (arch-after arch _ (related-cut asked front [] r lr).1);
       spells = (n, tokens rel, tokens bound, related-spells asked front r, arch-spells arch back b, ap (λ ts. word name ∷ ts) (tokens-append rel bound));
     }

@@ -37,8 +37,8 @@ run-all : (p : ℕ → Bool) (xs rest : List ℕ) → prefix_len p (xs ++ rest) 
 run-all p [] rest e = refl
 run-all p (x ∷ xs) rest e =
     elim (cases_Bool (p x)) [
-      inl t ↦ (let f : 1 + prefix_len p (xs ++ rest) ≡ suc (length xs) = sym (ap (λ b. cond b (1 + prefix_len p (xs ++ rest)) 0) t) ∙ e in and_from _ _ t (run-all p xs rest (omega arith)))
-    | inr n ↦ (let f : 0 ≡ suc (length xs) = sym (ap (λ b. cond b (1 + prefix_len p (xs ++ rest)) 0) n) ∙ e in absurd (omega arith))
+      | inl t ↦ (let f : 1 + prefix_len p (xs ++ rest) ≡ suc (length xs) = sym (ap (λ b. cond b (1 + prefix_len p (xs ++ rest)) 0) t) ∙ e in and_from _ _ t (run-all p xs rest (omega arith)))
+      | inr n ↦ (let f : 0 ≡ suc (length xs) = sym (ap (λ b. cond b (1 + prefix_len p (xs ++ rest)) 0) n) ∙ e in absurd (omega arith))
     ]
 
 abbrev clean : ℕ → Bool

@@ -8,7 +8,7 @@ pub mod PieceText
 pub mod LevelFacts
 pub mod Cuts
 pub mod Turns
-pub mod Laws
+pub mod Agreement
 pub mod Lexing
 pub mod Fronts
 pub mod Reach

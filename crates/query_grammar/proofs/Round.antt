@@ -124,10 +124,13 @@ comma-separator = record {
 bar-separator : Separator 124 (space ∷ sign 124 ∷ space ∷ [])
 unfolding is_word special
 bar-separator = record {
-  cut = λ place rest o b.
-    (outer-space place (124 ∷ 32 ∷ rest) o refl,
-     (outer-sign (next_place place Blank) 124 (32 ∷ rest) (space-after place o) refl refl,
-      subst (λ q. FrontCut q (space ∷ []) rest) (sym (sign-after (next_place place Blank) 124 (space-after place o) refl)) (outside-blank rest b, tt)));
+  cut = λ place rest o b. (
+    outer-space place (124 ∷ 32 ∷ rest) o refl,
+    (
+      outer-sign (next_place place Blank) 124 (32 ∷ rest) (space-after place o) refl refl,
+      subst (λ q. FrontCut q (space ∷ []) rest) (sym (sign-after (next_place place Blank) 124 (space-after place o) refl)) (outside-blank rest b, tt),
+    ),
+  );
   after = λ place o. ap (λ q. next_place q Blank) (sign-after (next_place place Blank) 124 (space-after place o) refl);
   no_word = λ rest. refl;
   is_mark = refl;
@@ -141,23 +144,23 @@ list-cons : (c : ℕ) (sep : List Piece) (R : List Token → Tree → Type 0) (t
 list-cons c sep R text more t ts between s m = record {
   pieces = s.pieces ++ (sep ++ m.pieces);
   texts =
-    joined-append s.pieces (sep ++ m.pieces) ∙ ap (λ xs. xs ++ joined (sep ++ m.pieces)) s.texts
-    ∙ ap (λ xs. text ++ xs) (joined-append sep m.pieces ∙ ap (λ xs. joined sep ++ xs) m.texts);
+      joined-append s.pieces (sep ++ m.pieces) ∙ ap (λ xs. xs ++ joined (sep ++ m.pieces)) s.texts
+      ∙ ap (λ xs. text ++ xs) (joined-append sep m.pieces ∙ ap (λ xs. joined sep ++ xs) m.texts);
   begins = λ rest.
-    subst (λ xs. NotFirst is_blank xs) (sym (ap (λ xs. xs ++ rest) (joined-append s.pieces (sep ++ m.pieces)) ∙ append_assoc (joined s.pieces) (joined (sep ++ m.pieces)) rest)) (s.begins (joined (sep ++ m.pieces) ++ rest));
+      subst (λ xs. NotFirst is_blank xs) (sym (ap (λ xs. xs ++ rest) (joined-append s.pieces (sep ++ m.pieces)) ∙ append_assoc (joined s.pieces) (joined (sep ++ m.pieces)) rest)) (s.begins (joined (sep ++ m.pieces) ++ rest));
   cut = λ rest n.
-    let later : joined (sep ++ m.pieces) ++ rest ≡ joined sep ++ (joined m.pieces ++ rest) = ap (λ xs. xs ++ rest) (joined-append sep m.pieces) ∙ append_assoc (joined sep) (joined m.pieces) rest in
-    let place = place_after Outside s.pieces in
-    front_join s.pieces (sep ++ m.pieces) Outside rest (s.cut (joined (sep ++ m.pieces) ++ rest) (subst (λ xs. NotFirst is_word xs) (sym later) (between.no_word (joined m.pieces ++ rest))))
-    (front_join sep m.pieces place rest (between.cut place (joined m.pieces ++ rest) s.after (m.begins rest)) (subst (λ q. FrontCut q m.pieces rest) (sym (between.after place s.after)) (m.cut rest n)));
+      let later : joined (sep ++ m.pieces) ++ rest ≡ joined sep ++ (joined m.pieces ++ rest) = ap (λ xs. xs ++ rest) (joined-append sep m.pieces) ∙ append_assoc (joined sep) (joined m.pieces) rest in
+      let place = place_after Outside s.pieces in
+      front_join s.pieces (sep ++ m.pieces) Outside rest (s.cut (joined (sep ++ m.pieces) ++ rest) (subst (λ xs. NotFirst is_word xs) (sym later) (between.no_word (joined m.pieces ++ rest))))
+      (front_join sep m.pieces place rest (between.cut place (joined m.pieces ++ rest) s.after (m.begins rest)) (subst (λ q. FrontCut q m.pieces rest) (sym (between.after place s.after)) (m.cut rest n)));
   after =
-    subst IsOuter
-    (sym (place_after-append Outside s.pieces (sep ++ m.pieces) ∙ place_after-append (place_after Outside s.pieces) sep m.pieces ∙ ap (λ q. place_after q m.pieces) (between.after (place_after Outside s.pieces) s.after)))
-    m.after;
+      subst IsOuter
+      (sym (place_after-append Outside s.pieces (sep ++ m.pieces) ∙ place_after-append (place_after Outside s.pieces) sep m.pieces ∙ ap (λ q. place_after q m.pieces) (between.after (place_after Outside s.pieces) s.after)))
+      m.after;
   spells =
-    subst (λ qs. Between c R qs (t ∷ ts))
-    (sym (tokens-append s.pieces (sep ++ m.pieces) ∙ ap (λ qs. tokens s.pieces ++ qs) (tokens-append sep m.pieces ∙ ap (λ qs. qs ++ tokens m.pieces) between.is_mark)))
-    (Between-cons c R (tokens s.pieces) (tokens m.pieces) t ts s.spells m.spells);
+      subst (λ qs. Between c R qs (t ∷ ts))
+      (sym (tokens-append s.pieces (sep ++ m.pieces) ∙ ap (λ qs. tokens s.pieces ++ qs) (tokens-append sep m.pieces ∙ ap (λ qs. qs ++ tokens m.pieces) between.is_mark)))
+      (Between-cons c R (tokens s.pieces) (tokens m.pieces) t ts s.spells m.spells);
 }
 
 list-one : (c : ℕ) (R : List Token → Tree → Type 0) (text : List ℕ) (t : Tree) → Shows R text t → ListOf c R (t ∷ []) (text ++ [])
@@ -196,9 +199,10 @@ enclosed n text t s = record {
   pieces = sign 40 ∷ (s.pieces ++ sign 41 ∷ []);
   texts = ap (λ xs. 40 ∷ xs) (joined-append s.pieces (sign 41 ∷ []) ∙ ap (λ xs. xs ++ 41 ∷ []) s.texts);
   begins = λ rest. refl;
-  cut = λ rest m.
-    (outer-sign Outside 40 (joined (s.pieces ++ sign 41 ∷ []) ++ rest) tt refl refl,
-     front_join s.pieces (sign 41 ∷ []) Outside rest (s.cut (41 ∷ rest) refl) (outer-sign (place_after Outside s.pieces) 41 rest s.after refl refl, tt));
+  cut = λ rest m. (
+    outer-sign Outside 40 (joined (s.pieces ++ sign 41 ∷ []) ++ rest) tt refl refl,
+    front_join s.pieces (sign 41 ∷ []) Outside rest (s.cut (41 ∷ rest) refl) (outer-sign (place_after Outside s.pieces) 41 rest s.after refl refl, tt),
+  );
   after = subst IsOuter (sym (place_after-append Outside s.pieces (sign 41 ∷ []) ∙ sign-after (place_after Outside s.pieces) 41 s.after refl)) tt;
   spells = inr (inr (tokens s.pieces, ap (λ qs. mark 40 ∷ qs) (tokens-append s.pieces (sign 41 ∷ [])), s.spells));
 }
@@ -302,6 +306,73 @@ module _ (n : ℕ) (again : (ts : List Token) (t : Tree) → One n ts t → AllL
       only [] x u e r = let f : x ≡ u = cc in subst (Triple n) f r
       only (y ∷ []) x u e r = cc
       only (y ∷ z ∷ zs) x u e r = cc
+
       not-nil : (xs : List Tree) (x : Tree) → xs ++ x ∷ [] ≡ [] → ⊥
       not-nil [] x e = cc
       not-nil (y ∷ ys) x e = cc
+
+  each-alternative : (ps : List Token) (ts : List Tree) → Followed 124 (AllOf (One n)) ps ts → AllLexed ps → Each (AllOf (One n)) alternative_text ts
+  each-alternative ps [] f l = tt
+  each-alternative ps (t ∷ ts) (front, rest, e, h, more) l =
+      let parts = lexed-split front (mark 124 ∷ rest) (subst AllLexed e l) in
+      ((alternative-again front t h parts.0).shown, each-alternative rest ts more parts.1.1)
+
+  -- an `any`, by itself and in parentheses
+  record Whole (t : Tree) : Type 0 where
+    alone : Shows (AnyOf (One n)) (written t) t
+    deeper : Triple (suc n) t
+
+  any-of-again : (ts : List Tree) → Each (AllOf (One n)) alternative_text ts → ((a : Tree) → ts ≡ a ∷ [] → Alternative a) → (ts ≡ [] → ⊥) → Whole (any_of ts)
+  any-of-again [] e one some = absurd (some refl)
+  any-of-again (a ∷ []) e one some = let r = one a refl in record { alone = r.alone; deeper = r.deeper }
+  any-of-again (a ∷ b ∷ cs) e one some =
+      let ts = a ∷ b ∷ cs in
+      let t = any (listed ts) in
+      let alone = weaker (λ ps x. Between 124 (AllOf (One n)) ps ts) (AnyOf (One n)) (written t) (all nil) t (alternatives-list (AllOf (One n)) (b ∷ cs) a e.0 e.1) (λ qs h. (ts, h, refl)) in
+      let member = enclosed n (written t) t alone in
+      record {
+        alone = alone;
+        deeper = record {
+          member = member;
+          alternative = one-all (One (suc n)) (40 ∷ (written t ++ 41 ∷ [])) t member;
+          alone = weaker (AnyOf (One n)) (AnyOf (One (suc n))) (written t) t t alone (λ qs h. AnyOf-map (One n) (One (suc n)) qs t (One-more n) h);
+        };
+      }
+
+  any-again : (ps : List Token) (t : Tree) → AnyOf (One n) ps t → AllLexed ps → Whole t
+  any-again ps t (ts, b, made) l =
+      let parts = lexed-split b.front b.last (subst AllLexed b.split l) in
+      let last = alternative-again b.last b.final b.end parts.1 in
+      let each = subst (λ vs. Each (AllOf (One n)) alternative_text vs) (sym b.trees) (each-snoc (AllOf (One n)) alternative_text b.firsts b.final (each-alternative b.front b.firsts b.each parts.0) last.shown) in
+      subst Whole (sym made) (any-of-again ts each (λ a e. only-alternative b.firsts b.final a (sym b.trees ∙ e) last) (λ e. some-alternative b.firsts b.final (sym b.trees ∙ e)))
+    where
+      only-alternative : (xs : List Tree) (x a : Tree) → xs ++ x ∷ [] ≡ a ∷ [] → Alternative x → Alternative a
+      only-alternative [] x a e r = let f : x ≡ a = cc in subst Alternative f r
+      only-alternative (y ∷ []) x a e r = cc
+      only-alternative (y ∷ z ∷ zs) x a e r = cc
+
+      some-alternative : (xs : List Tree) (x : Tree) → xs ++ x ∷ [] ≡ [] → ⊥
+      some-alternative [] x e = cc
+      some-alternative (y ∷ ys) x e = cc
+
+One-again : (n : ℕ) (ts : List Token) (t : Tree) → One n ts t → AllLexed ts → Triple n t
+One-again zero ts t h l = term-triple zero ts t h l
+One-again (suc n) ts t (inl h) l = term-triple (suc n) ts t h l
+One-again (suc n) ts t (inr (inl (rest, u, e, made, h))) l =
+    let inner = One-again n rest u h (subst AllLexed e l).1 in
+    subst (Triple (suc n)) (sym made) (triple-bare (suc n) (negated u) refl refl (denied n (member_text u) u inner.member))
+One-again (suc n) ts t (inr (inr (inner, e, h))) l =
+    let parts = lexed-split inner (mark 41 ∷ []) (subst AllLexed e l).1 in
+    (any-again n (One-again n) inner t h parts.0).deeper
+
+shown-text : (levels : ℕ) (text : List ℕ) (t : Tree) → Shows (AnyOf (One levels)) text t → QueryText levels text t
+unfolding QueryText pieces
+shown-text levels text t s =
+    subst (λ xs. AnyOf (One levels) (tokens (pieces xs)) t) s.texts
+    (subst (λ ps. AnyOf (One levels) (tokens ps) t) (sym (pieces_are s.pieces Outside (s.cut [] tt))) s.spells)
+
+-- what is written of a tree that some text spells spells the tree
+pub written_again : (levels : ℕ) (text : List ℕ) (t : Tree) → QueryText levels text t → QueryText levels (written t) t
+unfolding QueryText
+written_again levels text t h =
+    shown-text levels (written t) t (any-again levels (One-again levels) (tokens (pieces text)) t h (front-lexed (pieces text) Outside [] (text_front text))).alone

@@ -4,6 +4,7 @@
 mod begin;
 mod copy;
 mod fault;
+mod laws;
 mod level;
 mod piece;
 mod query;
@@ -16,6 +17,7 @@ mod write;
 mod write_tree;
 
 pub use fault::{QueryFault, QueryKind};
+pub use laws::written_query_is_read_back;
 pub use query::{Query, Test};
 pub use read::{read_filter, read_query};
 pub use write_tree::write_query;

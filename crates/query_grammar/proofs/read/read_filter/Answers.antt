@@ -8,7 +8,7 @@ use Rattle.query_grammar.specs.Reading.{Reading, tree, fault, reading}
 use Rattle.query_grammar.specs.Views.{Reads}
 use Rattle.query_grammar.specs.Answers.{IsTree, IsFilterFault}
 use Rattle.query_grammar.proofs.PlaceOf.{reading_place}
-use Rattle.query_grammar.proofs.Laws.{reading_found, reading_only}
+use Rattle.query_grammar.proofs.Agreement.{reading_found, reading_only}
 use Rattle.query_grammar.proofs.read.read_filter.Goals as goal
 
 found : (text : List ℕ) (r : Result Query QueryFault) → Reads r (reading text) → IfOk r (λ query. QueryText 64 text (plain query))
