@@ -1,0 +1,9 @@
+use Rattle.std.proofs.Common.{◌==◌, rules, tests}
+use Rattle.std.proofs.lemmas.Iterator.Search.{any_from_yields_List}
+use Rattle.std.proofs.lemmas.Iterator.Splits.{YieldsList-from_slice_split}
+use Rattle.ap_text.specs.Paths.{is_long_segment}
+use Rattle.ap_text.proofs.path.has_long_segment.Goals as goal
+
+pub returns : goal.returns
+returns c =
+    any_from_yields_List is_long_segment _ _ _ c.any.ensures.ran (YieldsList-from_slice_split _ (λ b. b == 47) c.args.bytes.now c.split.ensures.rest c.split.ensures.done c.split.ensures.closure (λ x b q k. search (rules, tests))) (λ x b q k. search (rules, tests))

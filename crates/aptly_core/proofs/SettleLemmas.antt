@@ -1,0 +1,185 @@
+-- What a stop within the settling may leave.
+use Rattle.std.proofs.Common.{◌≡◌, ◌≢◌, ◌⊎◌, ◌==◌, ◌&&◌, inl, inr, ℕ, Bool, true, false, List, [], ◌∷◌, ◌++◌, Option, Some, None, IsTrue, IsFalse, MatchBool, Result, Ok, Err, OnOk, nat_eq, slice_index, length, codes, refl, sym, ◌∙◌, ap, subst}
+use Rattle.std.specs.List.{starts_with}
+use Rattle.std.proofs.lemmas.Bool.{eqb-true}
+use Rattle.ap_text.specs.Paths.{is_below}
+use Rattle.ap_host.specs.declared.host.Op.{Op}
+use Rattle.ap_host.specs.declared.host.Op.TheVariants.{Create, Append, Sync, Rename, Remove, Barrier, Say, Claim}
+use Rattle.ap_host.specs.declared.host.HostErr.{HostErr}
+use Rattle.ap_host.specs.Disk.{Path, Content, Files, Log, Disk, disk_of, extended, live_of, Image, Images, said, Durable, Throughout}
+use Rattle.ap_host.specs.Calls.{Did}
+use Rattle.ap_host.specs.Changes.{EachOp, TouchesOnly, SameExcept}
+use Rattle.ap_host.proofs.DiskLemmas.{extended-append, extended-none}
+use Rattle.ap_host.proofs.ChangeLemmas.{EachOp-append, EachOp-map, same_after}
+use Rattle.ap_host.proofs.LegalLemmas.{durable_image}
+use Rattle.stage_file.specs.Stage.{StageState, is_staged, IsInStep, IsMarked, ClearsStaged, Clears, Barriers}
+use Rattle.stage_file.proofs.StageLemmas.{live_step_of}
+use Rattle.run_model.specs.Run.{Grows, AtRest}
+use Rattle.run_model.proofs.Growing.{grows_then}
+use Rattle.aptly_core.specs.Machine.{machine, IsWork, IsOpening, Sets, targets}
+use Rattle.aptly_core.specs.Opens.{IsSettling, SettlesTo}
+use Rattle.aptly_core.specs.State.{Valid}
+use Rattle.aptly_core.specs.Store.{root, IsRootOf, Stored, Open}
+use Rattle.aptly_core.specs.Values.{StateView}
+use Rattle.aptly_core.proofs.CommitLemmas.{is_public, Holds, HoldsNone, open_along, apart_phase, nothing_phase, barrier_phase, barriers_each}
+
+clash : {A : Type 0} → false ≡ true → A
+clash h = absurd (cc)
+
+abbrev pub P : Path → Type 0
+P q = IsTrue (is_staged q)
+
+root_not_staged : ¬ P root
+root_not_staged h = clash h
+
+front : (a b : Bool) → (a && b) ≡ true → a ≡ true
+front true b e = refl
+front false b e = absurd (cc)
+
+begins : (b c : ℕ) (q folder : Path) → is_below (c ∷ folder) (b ∷ q) ≡ true → b ≡ c
+begins b c q folder is = sym (eqb-true c b (front (nat_eq c b) (starts_with nat_eq q folder) (front (starts_with nat_eq (b ∷ q) (c ∷ folder)) (slice_index (b ∷ q) (length (c ∷ folder)) == 47) is)))
+
+-- (their first bytes differ)
+pub public_not_staged : (q : Path) → IsTrue (is_public q) → ¬ P q
+public_not_staged [] is staged = clash is
+public_not_staged (b ∷ q) is staged =
+    let p : b ≡ 112 = begins b 112 q (codes "ublic") is in
+    let s : b ≡ 115 = begins b 115 q (codes "tage") staged in
+    let no : 112 ≡ 115 = sym p ∙ s in
+    clash (ap (λ (x : ℕ). x == 115) no)
+
+pub clears_each : (Q : Op → Type 0) → ((p : Path) → IsTrue (is_staged p) → Q (Remove p)) → (a : List Op) → EachOp ClearsStaged a → EachOp Q a
+clears_each Q f a each = EachOp-map ClearsStaged Q one a each
+  where
+    one : (op : Op) → ClearsStaged op → Q op
+    one (Remove p) w = f p w
+    one (Create p) w = absurd w
+    one (Append p b) w = absurd w
+    one (Sync p) w = absurd w
+    one (Rename a b) w = absurd w
+    one Barrier w = absurd w
+    one (Say b) w = absurd w
+    one (Claim b) w = absurd w
+
+clears_quiet : (a : List Op) → EachOp ClearsStaged a → said a ≡ []
+clears_quiet [] each = refl
+clears_quiet (Remove p ∷ a) each = clears_quiet a each.1
+clears_quiet (Create p ∷ a) each = absurd each.0
+clears_quiet (Append p b ∷ a) each = absurd each.0
+clears_quiet (Sync p ∷ a) each = absurd each.0
+clears_quiet (Rename x y ∷ a) each = absurd each.0
+clears_quiet (Barrier ∷ a) each = absurd each.0
+clears_quiet (Say b ∷ a) each = absurd each.0
+clears_quiet (Claim b ∷ a) each = absurd each.0
+
+pub settling_each : (Q : Op → Type 0) → ((p : Path) → IsTrue (is_staged p) → Q (Remove p)) → Q Barrier → (a : List Op) → EachOp IsSettling a → EachOp Q a
+settling_each Q f here a each = EachOp-map IsSettling Q one a each
+  where
+    one : (op : Op) → IsSettling op → Q op
+    one (Remove p) w = f p w
+    one Barrier w = here
+    one (Create p) w = absurd w
+    one (Append p b) w = absurd w
+    one (Sync p) w = absurd w
+    one (Rename a b) w = absurd w
+    one (Say b) w = absurd w
+    one (Claim b) w = absurd w
+
+pub settling_target : (a : List Op) → EachOp IsSettling a → targets a ≡ []
+settling_target [] each = refl
+settling_target (Remove p ∷ a) each = settling_target a each.1
+settling_target (Barrier ∷ a) each = settling_target a each.1
+settling_target (Create p ∷ a) each = absurd each.0
+settling_target (Append p b ∷ a) each = absurd each.0
+settling_target (Sync p ∷ a) each = absurd each.0
+settling_target (Rename x y ∷ a) each = absurd each.0
+settling_target (Say b ∷ a) each = absurd each.0
+settling_target (Claim b ∷ a) each = absurd each.0
+
+pub settling_quiet : (a : List Op) → EachOp IsSettling a → said a ≡ []
+settling_quiet [] each = refl
+settling_quiet (Remove p ∷ a) each = settling_quiet a each.1
+settling_quiet (Barrier ∷ a) each = settling_quiet a each.1
+settling_quiet (Create p ∷ a) each = absurd each.0
+settling_quiet (Append p b ∷ a) each = absurd each.0
+settling_quiet (Sync p ∷ a) each = absurd each.0
+settling_quiet (Rename x y ∷ a) each = absurd each.0
+settling_quiet (Say b ∷ a) each = absurd each.0
+settling_quiet (Claim b ∷ a) each = absurd each.0
+
+is_work : (p : Path) → IsTrue (is_staged p) → IsWork (Remove p)
+is_work p is = search
+
+pub settling_work : (a : List Op) → EachOp IsSettling a → EachOp IsWork a
+settling_work a each = settling_each IsWork is_work tt a each
+
+module _ (s : StateView) (l : Log) (durable : Durable l) (stands : Open (live_of l) s) where
+  pub holds_durable : Holds s s l
+  holds_durable = (
+    λ x may. inl (subst (λ (y : Content). IsRootOf y s) (sym (durable root x may)) stands.stored.root),
+    λ q x is may. durable q x may ∙ stands.public q is,
+  )
+
+  touches : (a : List Op) → EachOp ClearsStaged a → EachOp (TouchesOnly P) a
+  touches a each = clears_each (TouchesOnly P) (λ p is. is) a each
+
+  pub nothing_settled : Grows machine s s l []
+  nothing_settled = nothing_phase s s stands.stored.valid stands.stored.valid l [] holds_durable refl
+
+  pub clear_phase : (a : List Op) → EachOp ClearsStaged a → Grows machine s s l a
+  clear_phase a each = apart_phase s s stands.stored.valid stands.stored.valid P l a holds_durable (clears_quiet a each) (touches a each) root_not_staged public_not_staged
+
+  module _ {T : Type 0} (a b : List Op) (each : EachOp ClearsStaged a) (st : StageState) (r : Result T HostErr) (barriers : Barriers st r (extended a l) b) where
+    abbrev pub m : Log
+    m = extended a l
+
+    same : SameExcept P l m
+    same = same_after P l a (touches a each)
+
+    at_mid : Holds s s m
+    at_mid = (
+      λ x may. holds_durable.0 x (same.may root x root_not_staged may),
+      λ q x is may. holds_durable.1 q x is (same.may q x (public_not_staged q is) may),
+    )
+
+    second : Grows machine s s m b
+    second = go st.touched barriers.made
+      where
+        go : (x : Bool) → MatchBool x (Did Barrier r b) (b ≡ []) → Grows machine s s m b
+        go true d = barrier_phase s s stands.stored.valid stands.stored.valid m b r at_mid d
+        go false d = nothing_phase s s stands.stored.valid stands.stored.valid m b at_mid d
+
+    pub settle_phase : Grows machine s s l (a ++ b)
+    settle_phase = grows_then machine s s l a b (clear_phase a each) second
+
+    -- a barrier, made or not, leaves what reads give
+    live_barrier : (v : T) → r ≡ Ok v → (q : Path) → live_of (extended b m) q ≡ live_of m q
+    live_barrier v is q = go st.touched barriers.made
+      where
+        go : (x : Bool) → MatchBool x (Did Barrier r b) (b ≡ []) → live_of (extended b m) q ≡ live_of m q
+        go true d = ap (λ (o : List Op). live_of (extended o m) q) (subst (λ v. Did Barrier v b) is d) ∙ live_step_of m Barrier q
+        go false d = ap (λ (o : List Op). live_of (extended o m) q) d ∙ ap (λ (x : Log). live_of x q) (extended-none m)
+
+    pub settle_rest : (old : StageState) → IsMarked old st a → OnOk r (AtRest machine s (extended (a ++ b) l))
+    settle_rest old marked = go r refl barriers.durable
+      where
+        in_step : IsInStep st m
+        in_step clean = elim marked [
+          | inl touching ↦ absurd (let no : true ≡ false = sym touching ∙ clean in cc)
+          | inr none ↦ subst (λ (o : List Op). Durable (extended o l)) (sym none.0) (subst Durable (sym (extended-none l)) durable)
+        ]
+
+        go : (v : Result T HostErr) → r ≡ v → OnOk v (IsInStep st m → Durable (extended b m)) → OnOk v (AtRest machine s (extended (a ++ b) l))
+        go (Ok v) is d = subst (AtRest machine s) (extended-append a b l) (λ f image.
+            let there = durable_image (extended b m) (d in_step) f image in
+            open_along s (live_of l) f (sym (there root ∙ live_barrier v is root ∙ same.live root root_not_staged)) (λ q at. sym (there q ∙ live_barrier v is q ∙ same.live q (public_not_staged q at))) stands)
+        go (Err e) is d = tt
+
+-- a settling that broke off
+pub settles_err : {T E : Type 0} (r : Result T E) (e : E) (l : Log) (ops : List Op) → r ≡ Err e → EachOp IsSettling ops → ((s : StateView) → Durable l → Open (live_of l) s → Grows machine s s l ops) → SettlesTo r l ops
+settles_err r e l ops is only grows = record { only = only; grows = grows; rests = λ s durable stands. subst (λ v. OnOk v (AtRest machine s (extended ops l))) (sym is) tt }
+
+-- the same of another result
+pub settles_as : {T U E F : Type 0} (r : Result T E) (v : Result U F) (l : Log) (ops : List Op) → OnOk v ((x : T) × (r ≡ Ok x)) → SettlesTo r l ops → SettlesTo v l ops
+settles_as r (Ok x) l ops was w = record { only = w.only; grows = w.grows; rests = λ s durable stands. subst (λ y. OnOk y (AtRest machine s (extended ops l))) was.1 (w.rests s durable stands) }
+settles_as r (Err e) l ops was w = record { only = w.only; grows = w.grows; rests = λ s durable stands. tt }

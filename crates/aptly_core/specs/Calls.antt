@@ -1,0 +1,109 @@
+-- What a whole call did.
+use Rattle.std.specs.Prelude.{◌≡◌, ◌⊎◌, ◌↔◌, ℕ, true, false, List, [], ◌∷◌, ◌++◌, Option, Some, None, Result, OnOk}
+use Rattle.ap_host.specs.declared.host.Op.{Op}
+use Rattle.ap_host.specs.declared.host.Op.TheVariants.{Create, Append, Sync, Rename, Remove, Barrier, Say, Claim}
+use Rattle.ap_host.specs.Disk.{Files, Log, live_of, said}
+use Rattle.ap_host.specs.Changes.{EachOp}
+use Rattle.run_model.specs.Run.{IsFront}
+use Rattle.run_model.specs.Call.{Entry, RanAll}
+use Rattle.aptly_core.specs.declared.command_words.Command.{Command}
+use Rattle.aptly_core.specs.declared.machine_state.Refusal.{Refusal}
+use Rattle.aptly_core.specs.declared.status.Damage.{Damage}
+use Rattle.aptly_core.specs.declared.status.Status.{Status}
+use Rattle.aptly_core.specs.declared.status.Status.TheVariants.{Done, Refused, Usage, HostFault, InboxFault, OutOfMemory, Damaged, Busy}
+use Rattle.aptly_core.specs.Machine.{machine, IsWork, IsTold}
+use Rattle.aptly_core.specs.Opens.{IsDamagedOrFault}
+use Rattle.aptly_core.specs.Replies.{usage_line}
+use Rattle.aptly_core.specs.Runs.{EndsWith, SaysRefusal}
+use Rattle.aptly_core.specs.Store.{IsDamage, Sound, SoundForNone, Stored}
+use Rattle.aptly_core.specs.Values.{StateView}
+use Rattle.aptly_core.specs.Words.{Commands, IsUsagePlace}
+
+-- Nothing, or a claim that wasn't got and nothing more, or one that was got and then no other. Behind it files are written
+-- below `stage/` alone, in pieces of at most 65,536 bytes, and renamed from there.
+abbrev pub ClaimsFirst : List Op → Type 0
+ClaimsFirst [] = Unit {0}
+ClaimsFirst (op ∷ ops) = ((op ≡ Claim false) × (ops ≡ [])) ⊎ ((op ≡ Claim true) × EachOp IsWork ops)
+
+abbrev pub GotClaim : List Op → Type 0
+GotClaim ops = (rest : List Op) × (ops ≡ Claim true ∷ rest)
+
+-- words alone
+abbrev pub IsSaid : Op → Type 0
+IsSaid (Say bytes) = Unit {0}
+IsSaid _ = ⊥
+
+-- what a whole call that ends with this status did, from an entry for s
+abbrev pub CallTo : Option (List ℕ) → Log → StateView → StateView → List Command → Status → List Op → Type 0
+CallTo large l s t commands Done ops = (end : StateView) × RanAll machine large l s t commands (Some (end, None)) ops
+CallTo large l s t commands (Refused refusal) ops = (end : StateView) × RanAll machine large l s t commands (Some (end, Some refusal)) ops
+CallTo large l s t commands HostFault ops = RanAll machine large l s t commands None ops
+CallTo large l s t commands InboxFault ops = RanAll machine large l s t commands None ops
+CallTo large l s t commands OutOfMemory ops = RanAll machine large l s t commands None ops
+CallTo large l s t commands (Usage place) ops = ⊥
+CallTo large l s t commands (Damaged damage) ops = ⊥
+CallTo large l s t commands Busy ops = (ops ≡ Claim false ∷ []) × RanAll machine large l s t commands None ops
+
+-- The call of these commands.
+pub record Called (commands : List Command) (status : Status) (l : Log) (ops : List Op) : Type 0 where
+  -- whatever the store held
+  pub first : ClaimsFirst ops
+  pub busy : (status ≡ Busy) ↔ (ops ≡ Claim false ∷ [])
+  -- a damaged store was claimed and left as it was. It stands for no state, and the damage is there
+  pub damaged : (damage : Damage) → status ≡ Damaged damage → (ops ≡ Claim true ∷ Barrier ∷ []) × SoundForNone (live_of l) × IsDamage (live_of l) damage
+  -- and one that stands for no state is told to be damaged, but for a fault
+  pub none : SoundForNone (live_of l) → GotClaim ops → IsDamagedOrFault status
+  -- the refused command's line was said, and it is refused so
+  pub refused : (refusal : Refusal) → status ≡ Refused refusal → SaysRefusal refusal ops × ((s : StateView) → Sound (live_of l) s → EndsWith s commands status)
+  -- from any entry: the run of these commands
+  pub run : (s t : StateView) → Entry machine l s t → (large : Option (List ℕ)) × IsTold large × CallTo large l s t commands status ops
+
+-- the usage line of this place was said, where the answer is Ok, or its front, and nothing else was done
+pub record SaysUsage {T E : Type 0} (place : ℕ) (result : Result T E) (ops : List Op) : Type 0 where
+  pub first : EachOp IsSaid ops
+  pub whole : OnOk result (ops ≡ Say (usage_line place) ∷ [])
+  pub front : IsFront (said ops) (usage_line place)
+
+-- the same, where the status is that of its place
+pub record TellsUsage (place : ℕ) (status : Status) (ops : List Op) : Type 0 where
+  pub first : EachOp IsSaid ops
+  pub usage : (p : ℕ) → status ≡ Usage p → ops ≡ Say (usage_line p) ∷ []
+  pub front : IsFront (said ops) (usage_line place)
+
+-- The words spell no commands: the usage line is said, or its front, and nothing else is done.
+pub record ToldUsage (words : List (List ℕ)) (status : Status) (ops : List Op) : Type 0 where
+  pub first : EachOp IsSaid ops
+  pub usage : (place : ℕ) → status ≡ Usage place → ops ≡ Say (usage_line place) ∷ []
+  pub front : (said ops ≡ []) ⊎ ((place : ℕ) × IsUsagePlace words place × IsFront (said ops) (usage_line place))
+
+-- what a call ends with from an entry, where no fault rose
+abbrev pub IsRunAnswer : Status → Type 0
+IsRunAnswer Done = Unit {0}
+IsRunAnswer (Refused refusal) = Unit {0}
+IsRunAnswer OutOfMemory = Unit {0}
+IsRunAnswer _ = ⊥
+
+-- what it ends with where the store stands for no state
+abbrev pub IsDamagedAnswer : Status → Type 0
+IsDamagedAnswer (Damaged damage) = Unit {0}
+IsDamagedAnswer OutOfMemory = Unit {0}
+IsDamagedAnswer _ = ⊥
+
+-- what words that spell no commands end with
+abbrev pub IsUsageAnswer : Status → Type 0
+IsUsageAnswer (Usage place) = Unit {0}
+IsUsageAnswer HostFault = Unit {0}
+IsUsageAnswer OutOfMemory = Unit {0}
+IsUsageAnswer _ = ⊥
+
+-- A call with these words, in which the host's count of faults rose or the inbox's, or not.
+pub record CalledWith (words : List (List ℕ)) (HostRose InboxRose : Type 0) (status : Status) (l : Log) (ops : List Op) : Type 0 where
+  pub usage : ((commands : List Command) → Commands words commands → ⊥) → ToldUsage words status ops
+  pub called : (commands : List Command) → Commands words commands → Called commands status l ops
+  -- complete: want of memory alone is free
+  pub answers : (commands : List Command) → Commands words commands → ¬ HostRose → ¬ InboxRose → GotClaim ops → (s t : StateView) → Entry machine l s t → IsRunAnswer status
+  pub damaged : (commands : List Command) → Commands words commands → ¬ HostRose → GotClaim ops → SoundForNone (live_of l) → IsDamagedAnswer status
+
+-- files hold one state at most
+abbrev pub LawOfStoredStates : Type 0
+LawOfStoredStates = (files : Files) (s t : StateView) → Stored files s → Stored files t → s ≡ t

@@ -1,0 +1,188 @@
+//! Whole calls over a host in memory.
+use crate::command_words::Words;
+use crate::run::aptly;
+use crate::status::{Damage, Status};
+use ap_host::{Bytes, HostErr, MemHost, MemInbox, Op};
+use ap_text::SafePath;
+use std::alloc::{AllocError, Global};
+use std::test::Fail;
+
+const NOW: i64 = 1507969667;
+
+const ROOT_OF_LOCAL: &str =
+    "aptly root 0\nknown 0\nmirrors 0\nrepos 1\nrepo local\ncomment\ndistribution\ncomponent main\nset 0\nsnapshots 0\npublications 0\nend\n";
+
+fn words_of(alloc: Global, text: &str) -> Result<Words, AllocError> {
+    let mut words = Words::new(alloc);
+    for word in text.split_whitespace() {
+        words.push(word)?;
+    }
+    Ok(words)
+}
+
+/// A store with this root, where there is one.
+fn store_of(alloc: Global, root: Option<&[u8]>, taken: bool) -> Result<MemHost, AllocError> {
+    let mut base = Vec::new(alloc);
+    if let Some(root) = root {
+        base.push((SafePath::fixed(alloc, "db/root")?, Bytes::new(alloc, root)?))?;
+    }
+    MemHost::new(alloc, base, Vec::new(alloc), taken)
+}
+
+fn call(alloc: Global, host: &mut MemHost, text: &str) -> Result<Status, AllocError> {
+    let words = words_of(alloc, text)?;
+    let mut inbox = MemInbox::new(Vec::new(alloc), Vec::new(alloc));
+    Ok(aptly(alloc, &words, NOW, host, &mut inbox))
+}
+
+/// What was said, from this operation on.
+fn said(alloc: Global, host: &MemHost, from: usize) -> Result<Vec<u8>, AllocError> {
+    let mut text = Vec::new(alloc);
+    for op in host.log().iter().skip(from) {
+        if let Op::Say(bytes) = op {
+            text.extend_from_slice(bytes.as_slice())?;
+        }
+    }
+    Ok(text)
+}
+
+/// A letter for each operation.
+fn kinds(alloc: Global, host: &MemHost) -> Result<String, AllocError> {
+    let mut text = String::new(alloc);
+    for op in host.log() {
+        text.push_str(match op {
+            Op::Create(_) => "c",
+            Op::Append(_, _) => "a",
+            Op::Sync(_) => "s",
+            Op::Rename(_, _) => "r",
+            Op::Remove(_) => "d",
+            Op::Barrier => "B",
+            Op::Say(_) => "S",
+            Op::Claim(_) => "C",
+        })?;
+    }
+    Ok(text)
+}
+
+/// The root that a choice takes of the first operations.
+fn root_at(host: &MemHost, upto: usize, choice: u64) -> Result<Option<Bytes>, AllocError> {
+    let upto = upto.min(host.log().len());
+    for (path, bytes) in host.image(upto, choice)? {
+        if path.as_str() == "db/root" {
+            return Ok(Some(bytes));
+        }
+    }
+    Ok(None)
+}
+
+#[test]
+fn a_repository_is_stored_before_its_reply(rt: HostRuntime) -> Result<(), Fail> {
+    let alloc = rt.alloc();
+    let mut host = store_of(alloc, None, false)?;
+    let status = call(alloc, &mut host, "repo create local")?;
+    assert_eq!(rt; status.code(), 0);
+    assert_eq!(rt; kinds(alloc, &host)?.as_str(), "CBcasrBS");
+    assert_eq!(rt;
+        said(alloc, &host, 0)?.as_slice(),
+        b"Repo local created.\n".as_slice()
+    );
+    assert_eq!(rt; ROOT_OF_LOCAL.len(), 123);
+    let root = root_at(&host, 8, 1)?.ok_or("no root")?;
+    assert_eq!(rt; root.as_slice(), ROOT_OF_LOCAL.as_bytes());
+    let again = call(alloc, &mut host, "repo create local")?;
+    assert_eq!(rt; again.code(), 1);
+    assert_eq!(rt; kinds(alloc, &host)?.as_str(), "CBcasrBSCBS");
+    assert_eq!(rt;
+        said(alloc, &host, 8)?.as_slice(),
+        b"ERROR: repo local exists\n".as_slice()
+    );
+    Ok(())
+}
+
+#[test]
+fn a_stopped_call_is_run_again(rt: HostRuntime) -> Result<(), Fail> {
+    let alloc = rt.alloc();
+    let mut host = store_of(alloc, None, false)?;
+    let _status = call(alloc, &mut host, "repo create local")?;
+    for (choice, last) in [(0, 5), (1, 6)] {
+        for upto in 0..9 {
+            let root = root_at(&host, upto, choice)?;
+            let mut next = match &root {
+                None => store_of(alloc, None, false)?,
+                Some(root) => store_of(alloc, Some(root.as_slice()), false)?,
+            };
+            let status = call(alloc, &mut next, "repo create local")?;
+            let wanted = if upto <= last { 0 } else { 1 };
+            assert_eq!(rt; status.code(), wanted, "{choice} {upto}");
+        }
+    }
+    Ok(())
+}
+
+fn root_of_many(alloc: Global, count: usize) -> Result<String, AllocError> {
+    let mut text = format!(in alloc; "aptly root 0\nknown 0\nmirrors 0\nrepos {}\n", count)?;
+    for i in 0..count {
+        let name = format!(in alloc; "repo r{}\n", 100_000 + (i % 100_000))?;
+        text.push_str(name.as_str())?;
+        text.push_str("comment\ndistribution\ncomponent main\nset 0\n")?;
+    }
+    text.push_str("snapshots 0\npublications 0\nend\n")?;
+    Ok(text)
+}
+
+#[test]
+fn each_store_has_its_answer(rt: HostRuntime) -> Result<(), Fail> {
+    let alloc = rt.alloc();
+    let many = root_of_many(alloc, 10_000)?;
+    let rows = [
+        ("repo create local", None, true, 7, "C", ""),
+        (
+            "repo create local",
+            Some("aptly root 0\n"),
+            false,
+            6,
+            "CB",
+            "",
+        ),
+        (
+            "repo create zz",
+            Some(many.as_str()),
+            false,
+            1,
+            "CBS",
+            "ERROR: over the limit of 10000 repos\n",
+        ),
+        (
+            "repo create a/b",
+            None,
+            false,
+            1,
+            "CBS",
+            "ERROR: bad name a/b\n",
+        ),
+        (
+            "repo create",
+            None,
+            false,
+            2,
+            "S",
+            "ERROR: usage at word 2\n",
+        ),
+    ];
+    for (words, root, taken, code, log, text) in rows {
+        let root: Option<&[u8]> = match root {
+            None => None,
+            Some(root) => Some(root.as_bytes()),
+        };
+        let mut host = store_of(alloc, root, taken)?;
+        let status = call(alloc, &mut host, words)?;
+        assert_eq!(rt; status.code(), code);
+        assert_eq!(rt; kinds(alloc, &host)?.as_str(), log);
+        assert_eq!(rt; said(alloc, &host, 0)?.as_slice(), text.as_bytes());
+        if let Status::Damaged(Damage::Unreadable { path, line }) = status {
+            assert_eq!(rt; path.as_str(), "db/root");
+            assert_eq!(rt; line, 2);
+        }
+    }
+    Ok(())
+}

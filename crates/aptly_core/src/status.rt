@@ -1,0 +1,80 @@
+//! How a call ends.
+ghost use Rattle.std.specs.Prelude.{◌≡◌};
+ghost use Rattle.aptly_core.specs.Status.{code_of};
+
+use crate::machine_state::Refusal;
+use ap_text::SafePath;
+
+/// What is wrong in a store that stands for no state.
+#[derive(Drop)]
+pub enum Damage {
+    /// A file isn't there.
+    Missing {
+        /// The file's path.
+        path: SafePath,
+    },
+    /// A file has another length than is said of it.
+    Size {
+        /// The file's path.
+        path: SafePath,
+        /// The length that is said, in bytes.
+        said: u64,
+        /// The length that was found, in bytes.
+        found: u64,
+    },
+    /// A file has another SHA-256 than is said of it.
+    Digest {
+        /// The file's path.
+        path: SafePath,
+        /// The digest that is said.
+        said: [u8; 32],
+        /// The digest that was found.
+        found: [u8; 32],
+    },
+    /// A line of a file can't stand where it stands.
+    Unreadable {
+        /// The file's path.
+        path: SafePath,
+        /// The number of the first such line, from 1. The end of the file counts as the next line.
+        line: u64,
+    },
+}
+
+/// How a call ended.
+#[derive(Drop)]
+pub enum Status {
+    /// Every command was done.
+    Done,
+    /// The commands before this one were done, and this one was refused.
+    Refused(Refusal),
+    /// The words spell no commands: the word at this index, from 0, can't stand there, or words are missing there.
+    Usage(u64),
+    /// A call of the host failed.
+    HostFault,
+    /// A call of the inbox failed.
+    InboxFault,
+    /// Memory was wanting.
+    OutOfMemory,
+    /// What the store holds stands for no state.
+    Damaged(Damage),
+    /// Another run has the store.
+    Busy,
+}
+
+impl Status {
+    /// The exit code of the program.
+    pub fn code(&self) -> u8
+        ensures { result ≡ code_of self.now }
+    {
+        match self {
+            Status::Done => 0,
+            Status::Refused(_) => 1,
+            Status::Usage(_) => 2,
+            Status::HostFault => 3,
+            Status::InboxFault => 4,
+            Status::OutOfMemory => 5,
+            Status::Damaged(_) => 6,
+            Status::Busy => 7,
+        }
+    }
+}

@@ -1,0 +1,6 @@
+pub mod CutLaws
+pub mod CutSteps
+pub mod Epochs
+pub mod Numbers
+pub mod OrderLaws
+pub mod Spelled

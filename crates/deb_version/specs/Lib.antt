@@ -1,0 +1,4 @@
+pub mod Cuts
+pub mod VersionText
+pub mod VersionOrder
+pub mod Spelling

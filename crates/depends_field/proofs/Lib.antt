@@ -1,0 +1,13 @@
+pub mod Completions
+pub mod Cuts
+pub mod Found
+pub mod FoundGroups
+pub mod Fronts
+pub mod Only
+pub mod OnlyGroups
+pub mod Operators
+pub mod Places
+pub mod Readers
+pub mod Unique
+pub mod Walks
+pub mod Words

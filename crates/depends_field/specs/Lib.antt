@@ -1,0 +1,5 @@
+pub mod Pieces
+pub mod Reading
+pub mod Groups
+pub mod Faults
+pub mod Places
