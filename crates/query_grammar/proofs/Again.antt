@@ -1,21 +1,19 @@
 -- The text of a term is cut into pieces that spell it.
-use Rattle.std.proofs.Common.{◌≡◌, ◌⊎◌, inl, inr, ℕ, suc, zero, ◌+◌, ◌<◌, Bool, true, false, cond, not, ◌&&◌, ◌||◌, List, [], ◌∷◌, ◌++◌, length, Option, Some, None, IsTrue, refl, sym, ap, ◌∙◌, subst, append_assoc, append-nil, arith, lit<}
+use Rattle.std.proofs.Common.{◌≡◌, ◌⊎◌, inl, inr, ℕ, suc, ◌+◌, Bool, true, false, cond, List, [], ◌∷◌, ◌++◌, Option, Some, None, IsTrue, refl, sym, ap, ◌∙◌, subst, append_assoc, append-nil, arith, lit<}
 use Rattle.std.specs.List.{list_all, prefix_len}
-use Rattle.std.proofs.lemmas.Bool.{and_parts, and_from, cases_Bool, cond-true, cond-false, not-true}
-use Rattle.deb_version.specs.VersionText.{is_version}
+use Rattle.std.proofs.lemmas.Bool.{and_parts, and_from, cond-true, cond-false}
 use Rattle.deb_version.specs.declared.order.Relation.{Relation}
 use Rattle.deb_version.specs.declared.order.Relation.TheVariants as relation
 use Rattle.query_grammar.specs.declared.query.Test.{Test}
 use Rattle.query_grammar.specs.declared.query.Test.TheVariants as test
 use Rattle.query_grammar.specs.declared.piece.Place.{Place}
 use Rattle.query_grammar.specs.declared.piece.Place.TheVariants.{Outside, BehindWord, Opening, Inside}
-use Rattle.query_grammar.specs.declared.piece.Shape.{Shape}
-use Rattle.query_grammar.specs.declared.piece.Shape.TheVariants.{Blank, Word, Operator, Lone, Quoted, Broken, Mark}
+use Rattle.query_grammar.specs.declared.piece.Shape.TheVariants.{Blank, Operator, Quoted, Mark}
 use Rattle.query_grammar.specs.Tree.{Tree, any, all, negated, reference, wanted, field}
-use Rattle.query_grammar.specs.Pieces.{Piece, Token, token, tokens, word, operator, quoted, mark, is_blank, is_word, plain_cut, inner_cut, opening_cut, next_place, joined, quoted_value}
-use Rattle.query_grammar.specs.Words.{IsReference, is_package, is_arch, is_field, relation_of, may_test}
+use Rattle.query_grammar.specs.Pieces.{Piece, Token, token, tokens, word, operator, quoted, mark, is_blank, is_word, plain_cut, inner_cut, next_place, joined}
+use Rattle.query_grammar.specs.Words.{IsReference, is_package, is_field, relation_of}
 use Rattle.query_grammar.specs.Grammar.{Term, Related, Bound, Tested, IsValue}
-use Rattle.query_grammar.specs.Written.{test_text, test_of, is_none, is_plain, is_plain_character, value_text, tested_text, relation_text, arch_text, field_text, written}
+use Rattle.query_grammar.specs.Written.{test_text, test_of, is_plain, is_plain_character, value_text, relation_text, arch_text, field_text, written}
 use Rattle.query_grammar.proofs.Lexing.{NotFirst, IsCut, FrontCut, place_after}
 use Rattle.query_grammar.proofs.Fronts.{joined-append, front_join}
 use Rattle.query_grammar.proofs.Reach.{IsOuter}

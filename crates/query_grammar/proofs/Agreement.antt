@@ -1,10 +1,9 @@
 -- Reading piece by piece agrees with the grammar.
 use Rattle.std.proofs.Common.{◌≡◌, ℕ, List, [], subst}
-use Rattle.query_grammar.specs.declared.fault.QueryKind.{QueryKind}
 use Rattle.query_grammar.specs.Tree.{Tree}
 use Rattle.query_grammar.specs.Pieces.{pieces, tokens}
 use Rattle.query_grammar.specs.Grammar.{QueryText}
-use Rattle.query_grammar.specs.Reading.{Reading, tree, fault, reading, run, start}
+use Rattle.query_grammar.specs.Reading.{tree, reading, start}
 use Rattle.query_grammar.proofs.Sound.{run_holds, Stands-start, ReadHolds}
 use Rattle.query_grammar.proofs.Complete.{any-result, result-run}
 

@@ -1,5 +1,5 @@
 -- A text's pieces are its first piece and the pieces of what follows it.
-use Rattle.std.proofs.Common.{◌≡◌, ℕ, suc, zero, ◌+◌, ◌-◌, ◌<◌, ◌≤◌, ◌==◌, Bool, false, cond, List, [], ◌∷◌, ◌++◌, length, take, drop, length-drop, Option, Some, None, refl, sym, ap, ◌∙◌, arith, lit<}
+use Rattle.std.proofs.Common.{◌≡◌, ℕ, suc, zero, ◌<◌, ◌≤◌, ◌==◌, false, List, [], ◌∷◌, length, take, drop, length-drop, Option, Some, None, refl, ap, arith}
 use Rattle.std.specs.Str.{IsUtf8, IsCharBoundary}
 use Rattle.std.proofs.lemmas.Bool.{cond_both}
 use Rattle.std.proofs.lemmas.List.Sums.{prefix_len-le-length}
@@ -8,8 +8,8 @@ use Rattle.query_grammar.specs.declared.piece.Place.TheVariants.{Outside, Behind
 use Rattle.query_grammar.specs.declared.piece.Shape.{Shape}
 use Rattle.query_grammar.specs.declared.piece.Shape.TheVariants.{Blank, Word, Operator, Lone, Quoted, Broken, Mark}
 use Rattle.query_grammar.specs.declared.piece.Cut.{Cut}
-use Rattle.query_grammar.specs.Pieces.{Piece, is_blank, is_word, is_quote, closing, quoted_value, IfQuoted, after_less, after_greater, plain_cut, quoted_cut, inner_cut, opening_cut, first_cut, next_place, cuts, cut_of, pieces_from}
-use Rattle.query_grammar.proofs.PieceText.{IsGood, first_cut-good, closing-place}
+use Rattle.query_grammar.specs.Pieces.{is_blank, is_word, is_quote, closing, quoted_value, IfQuoted, after_less, after_greater, plain_cut, quoted_cut, inner_cut, opening_cut, first_cut, next_place, cuts, cut_of, pieces_from}
+use Rattle.query_grammar.proofs.PieceText.{first_cut-good, closing-place}
 
 -- a piece has a byte at least, and no more than there are
 record IsWithin (room : ℕ) (cut : Cut) : Type 0 where

@@ -1,5 +1,5 @@
 -- Some query begins with the pieces that the reader read: an end that completes them.
-use Rattle.std.proofs.Common.{◌≡◌, ◌⊎◌, inl, inr, ℕ, suc, zero, ◌+◌, ◌<◌, ◌≤◌, Bool, true, false, cond, ◌||◌, not, List, [], ◌∷◌, ◌++◌, length, Option, Some, None, IsTrue, refl, sym, ap, ◌∙◌, subst, append_assoc, append-nil, arith, lit<}
+use Rattle.std.proofs.Common.{◌≡◌, ◌⊎◌, inl, inr, ℕ, suc, ◌+◌, Bool, true, cond, List, [], ◌∷◌, ◌++◌, Some, None, refl, sym, ap, ◌∙◌, subst, append-nil, lit<}
 use Rattle.std.specs.List.{prefix_len}
 use Rattle.std.proofs.lemmas.Bool.{or_right}
 use Rattle.deb_version.specs.VersionText.{is_version, fault_of, epoch_of, start_of, upstream_in, revision_in, is_epoch, is_revision_byte, is_upstream_byte, bad_in_upstream, bad_in_revision}
@@ -16,19 +16,18 @@ use Rattle.query_grammar.specs.declared.term.Begun.{Begun}
 use Rattle.query_grammar.specs.declared.term.Begun.TheVariants as so_far
 use Rattle.query_grammar.specs.declared.level.Next.{Next}
 use Rattle.query_grammar.specs.declared.level.Next.TheVariants.{Wanting, Having, Within}
-use Rattle.query_grammar.specs.declared.fault.QueryKind.{QueryKind}
 use Rattle.query_grammar.specs.Tree.{Tree, wanted, field}
-use Rattle.query_grammar.specs.Pieces.{Piece, Token, token, tokens, word, mark, is_blank, is_word, plain_cut, inner_cut, opening_cut, cut_of, next_place, pieces, pieces_from, joined}
-use Rattle.query_grammar.specs.Words.{is_package, is_field, is_arch, relation_of, may_test}
+use Rattle.query_grammar.specs.Pieces.{Piece, tokens, word, mark, is_blank, is_word, plain_cut, inner_cut, opening_cut, cut_of, pieces, joined}
+use Rattle.query_grammar.specs.Words.{is_package, is_arch, may_test}
 use Rattle.query_grammar.specs.Grammar.{One, AnyOf, QueryText}
-use Rattle.query_grammar.specs.Reading.{Progress, goes_on, whole, ended, progress, Level, State, with_member, whole_level, having_one, start, tree, finish, run, begun}
+use Rattle.query_grammar.specs.Reading.{goes_on, whole, progress, Level, State, with_member, whole_level, finish}
 use Rattle.query_grammar.specs.Places.{CanBegin}
 use Rattle.query_grammar.proofs.WordFacts.{begun-package}
-use Rattle.query_grammar.proofs.Sound.{Stands, run_holds, ReadHolds}
+use Rattle.query_grammar.proofs.Sound.{run_holds, ReadHolds}
 use Rattle.query_grammar.proofs.Complete.{result_of, state, result-run, Follows, Pauses, paused, pauses-package, pauses-related, pauses-field, on-word, on-mark, ends-mark, begins-word, close, opened-version, compared-version, arch-progress, value-progress, opened-value}
 use Rattle.query_grammar.proofs.Lexing.{NotFirst, Separates, IsCut, FrontCut, place_after, pieces_are}
-use Rattle.query_grammar.proofs.Fronts.{LastSeparates, front_split, front_join, other_end}
-use Rattle.query_grammar.proofs.Reach.{NextAt, BegunAt, IsOuter, Open}
+use Rattle.query_grammar.proofs.Fronts.{LastSeparates, front_join, other_end}
+use Rattle.query_grammar.proofs.Reach.{NextAt, BegunAt, IsOuter}
 use Rattle.query_grammar.proofs.Viable.{Reach, tokens-append}
 
 abbrev one : List ℕ

@@ -1,13 +1,11 @@
 -- Pieces at the front of a text are its pieces with another end too.
-use Rattle.std.proofs.Common.{◌≡◌, ℕ, suc, zero, ◌+◌, ◌<◌, ◌≤◌, List, [], ◌∷◌, ◌++◌, length, take, drop, take-append-drop, length-drop, length-take-le, refl, sym, ap, ◌∙◌, subst, append_assoc, append-nil, arith}
+use Rattle.std.proofs.Common.{◌≡◌, ℕ, suc, zero, ◌<◌, ◌≤◌, List, [], ◌∷◌, ◌++◌, length, take, drop, take-append-drop, length-drop, length-take-le, refl, sym, ap, ◌∙◌, subst, append_assoc, append-nil, arith}
 use Rattle.query_grammar.specs.declared.piece.Place.{Place}
-use Rattle.query_grammar.specs.declared.piece.Place.TheVariants.{Outside}
 use Rattle.query_grammar.specs.declared.piece.Shape.{Shape}
 use Rattle.query_grammar.specs.declared.piece.Shape.TheVariants.{Blank, Word, Operator, Lone, Quoted, Broken, Mark}
-use Rattle.query_grammar.specs.declared.piece.Cut.{Cut}
-use Rattle.query_grammar.specs.Pieces.{Piece, first_cut, cut_of, next_place, cuts, pieces, pieces_from, joined}
+use Rattle.query_grammar.specs.Pieces.{Piece, first_cut, cut_of, next_place, cuts, joined}
 use Rattle.query_grammar.proofs.Cuts.{first_cut-positive, first_cut-inside}
-use Rattle.query_grammar.proofs.Lexing.{cut_as, NotFirst, Separates, IsSound, IsCut, cut-local, cut-stops, FrontCut, place_after, pieces_are}
+use Rattle.query_grammar.proofs.Lexing.{cut_as, Separates, IsSound, IsCut, cut-local, cut-stops, FrontCut, place_after}
 
 pub joined-append : (ps qs : List Piece) → joined (ps ++ qs) ≡ joined ps ++ joined qs
 joined-append [] qs = refl

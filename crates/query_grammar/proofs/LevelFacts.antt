@@ -1,11 +1,11 @@
 -- An `all` or an `any` with one member is that member.
-use Rattle.std.proofs.Common.{◌≡◌, ℕ, suc, zero, ◌-◌, ◌<◌, ◌==◌, Bool, cond, List, [], ◌∷◌, ◌++◌, length, map, reverse, refl, sym, ap, ◌∙◌, arith}
+use Rattle.std.proofs.Common.{◌≡◌, ℕ, suc, zero, ◌-◌, ◌<◌, ◌==◌, cond, List, [], ◌∷◌, ◌++◌, length, map, reverse, refl, sym, ap, ◌∙◌, arith}
 use Rattle.std.proofs.lemmas.List.{map-append, reverse-append}
 use Rattle.std.proofs.Math.Dec.{eqb-suc-zero}
 use Rattle.query_grammar.specs.declared.level.Level as declared
 use Rattle.query_grammar.specs.declared.level.Next.TheVariants.{Wanting}
 use Rattle.query_grammar.specs.declared.fault.QueryKind.TheVariants.{Trailing, WantClose, TooDeep}
-use Rattle.query_grammar.specs.Reading.{Level, State, Step, goes, stops, after_whole, begin_negation, begin_group, negated_level, empty_level, Reading, tree, fault, finish_having, whole_level}
+use Rattle.query_grammar.specs.Reading.{Level, goes, stops, after_whole, begin_negation, begin_group, negated_level, empty_level, tree, fault, finish_having, whole_level}
 use Rattle.query_grammar.specs.Views.{level_view, outer_view}
 use Rattle.query_grammar.specs.Tree.{Tree, listed, any, all}
 use Rattle.query_grammar.specs.Grammar.{all_of, any_of}

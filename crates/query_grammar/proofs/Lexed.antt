@@ -1,13 +1,13 @@
 -- What the words and quoted values among the tokens of a text are made of.
-use Rattle.std.proofs.Common.{◌≡◌, ◌⊎◌, inl, inr, ℕ, suc, zero, ◌+◌, ◌-◌, ◌<◌, ◌≤◌, ◌==◌, Bool, true, false, cond, not, ◌&&◌, ◌||◌, List, [], ◌∷◌, ◌++◌, length, take, Option, Some, None, refl, sym, ap, ◌∙◌, subst, append_assoc, append-nil, arith}
+use Rattle.std.proofs.Common.{◌≡◌, inl, inr, ℕ, suc, zero, ◌+◌, ◌-◌, ◌==◌, Bool, true, false, cond, not, ◌&&◌, ◌||◌, List, [], ◌∷◌, ◌++◌, length, take, Option, Some, None, refl, sym, ap, ◌∙◌, subst, arith}
 use Rattle.std.specs.List.{prefix_len, list_all}
 use Rattle.std.proofs.lemmas.Bool.{cond_both, and_parts, and_from, not_from_false, cases_Bool}
 use Rattle.query_grammar.specs.declared.piece.Place.{Place}
 use Rattle.query_grammar.specs.declared.piece.Place.TheVariants.{Outside, BehindWord, Opening, Inside}
 use Rattle.query_grammar.specs.declared.piece.Shape.{Shape}
-use Rattle.query_grammar.specs.declared.piece.Shape.TheVariants.{Blank, Word, Operator, Lone, Quoted, Broken, Mark}
+use Rattle.query_grammar.specs.declared.piece.Shape.TheVariants.{Blank, Word, Lone, Quoted, Broken, Mark}
 use Rattle.query_grammar.specs.declared.piece.Cut.{Cut}
-use Rattle.query_grammar.specs.Pieces.{Piece, Token, token, tokens, behind, gap, word, operator, lone, quoted, broken, mark, is_blank, is_word, is_quote, is_control, closing, one_more, unquoted, quoted_value, of_one, of_two, after_less, after_greater, plain_cut, quoted_cut, inner_cut, opening_cut, first_cut, next_place, joined}
+use Rattle.query_grammar.specs.Pieces.{Piece, Token, token, tokens, behind, gap, word, operator, lone, quoted, broken, mark, is_blank, is_word, is_quote, is_control, closing, one_more, unquoted, after_less, after_greater, plain_cut, quoted_cut, inner_cut, opening_cut, next_place}
 use Rattle.query_grammar.proofs.Lexing.{cut_as, IsCut, FrontCut, size-same, one_more-back}
 use Rattle.query_grammar.proofs.Shown.{IsRun, HasNoControl, word-no_control, backslash_low}
 

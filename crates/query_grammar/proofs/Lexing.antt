@@ -1,16 +1,16 @@
 -- A piece is cut alike whatever follows it, as long as no run goes on there.
-use Rattle.std.proofs.Common.{◌≡◌, ◌≢◌, ◌⊎◌, inl, inr, ℕ, suc, zero, ◌+◌, ◌-◌, ◌<◌, ◌≤◌, ◌==◌, Bool, true, false, cond, not, ◌&&◌, List, [], ◌∷◌, ◌++◌, length, take, drop, length-append, length-drop, length-take, Option, Some, None, refl, sym, ap, ◌∙◌, subst, append_assoc, append-nil, arith, lit<}
+use Rattle.std.proofs.Common.{◌≡◌, ℕ, suc, ◌+◌, ◌<◌, ◌==◌, Bool, true, false, cond, not, ◌&&◌, List, [], ◌∷◌, ◌++◌, length, take, drop, length-append, Option, Some, None, refl, sym, ap, ◌∙◌, subst, append-nil, arith}
 use Rattle.std.specs.List.{prefix_len}
 use Rattle.std.proofs.lemmas.Bool.{cond_both}
 use Rattle.std.proofs.Math.Seq.{take-append_seam, drop-append_seam}
 use Rattle.query_grammar.specs.declared.piece.Place.{Place}
 use Rattle.query_grammar.specs.declared.piece.Place.TheVariants.{Outside, BehindWord, Opening, Inside}
 use Rattle.query_grammar.specs.declared.piece.Shape.{Shape}
-use Rattle.query_grammar.specs.declared.piece.Shape.TheVariants.{Blank, Word, Operator, Lone, Quoted, Broken, Mark}
+use Rattle.query_grammar.specs.declared.piece.Shape.TheVariants.{Blank, Word, Lone, Broken}
 use Rattle.query_grammar.specs.declared.piece.Cut.{Cut}
-use Rattle.query_grammar.specs.Pieces.{Piece, is_blank, is_word, is_quote, is_control, closing, one_more, of_one, of_two, after_less, after_greater, plain_cut, quoted_cut, inner_cut, opening_cut, first_cut, cut_of, next_place, cuts, pieces_from, joined}
+use Rattle.query_grammar.specs.Pieces.{Piece, is_blank, is_word, is_quote, is_control, closing, one_more, of_one, of_two, after_less, after_greater, plain_cut, quoted_cut, inner_cut, opening_cut, first_cut, cut_of, next_place, pieces_from, joined}
 use Rattle.query_grammar.proofs.PieceText.{closing-place}
-use Rattle.query_grammar.proofs.Cuts.{first_cut-positive, pieces_step}
+use Rattle.query_grammar.proofs.Cuts.{pieces_step}
 
 abbrev pub cut_as : Shape → ℕ → Cut
 cut_as shape size = record { shape = shape; size = size }

@@ -1,17 +1,17 @@
 -- A text may be cut behind its first piece, and what a quoted value means is text.
-use Rattle.std.proofs.Common.{◌≡◌, ◌⊎◌, inl, inr, ℕ, suc, zero, ◌+◌, ◌-◌, ◌<◌, ◌≤◌, ◌==◌, ltb, leb, Bool, true, false, cond, not, ◌||◌, ◌&&◌, List, [], ◌∷◌, ◌++◌, length, take, drop, length-take, take-take, get_or, Option, Some, None, refl, sym, ap, ◌∙◌, subst, arith, lit≤, lit<}
+use Rattle.std.proofs.Common.{◌≡◌, inl, inr, ℕ, suc, zero, ◌-◌, ◌<◌, ◌≤◌, ◌==◌, Bool, true, false, cond, not, ◌&&◌, List, [], ◌∷◌, length, take, length-take, take-take, get_or, Option, Some, None, refl, sym, ap, ◌∙◌, subst, arith, lit<}
 use Rattle.std.specs.Str.{IsUtf8, IsCharBoundary}
 use Rattle.std.specs.List.{prefix_len}
-use Rattle.std.proofs.lemmas.Bool.{cases_Bool, cases_lt, ne_eqb, or_from, or_parts, and_parts, and_cases, cond-true, cond-false, eqb-true, eqb-false, ltb-false, ltb-true, leb-false, leb-true, cond_both, not-true, true≢false, false≢true, le-leb, and_from, both_ways}
+use Rattle.std.proofs.lemmas.Bool.{cases_lt, and_parts, eqb-true, cond_both}
 use Rattle.std.proofs.lemmas.Bool.Decides.{nat_tests}
 use Rattle.std.proofs.lemmas.List.Sums.{prefix_len-le-length, prefix_len_passes, prefix_len_stops}
 use Rattle.std.proofs.lemmas.Str.{IsUtf8-take, IsUtf8-drop, IsCharBoundary-end, IsCharBoundary-before_ascii, IsCharBoundary-after_ascii}
 use Rattle.query_grammar.specs.declared.piece.Place.{Place}
 use Rattle.query_grammar.specs.declared.piece.Place.TheVariants.{Outside, BehindWord, Opening, Inside}
 use Rattle.query_grammar.specs.declared.piece.Shape.{Shape}
-use Rattle.query_grammar.specs.declared.piece.Shape.TheVariants.{Blank, Word, Operator, Lone, Quoted, Broken, Mark}
+use Rattle.query_grammar.specs.declared.piece.Shape.TheVariants.{Blank, Word, Lone, Quoted, Mark}
 use Rattle.query_grammar.specs.declared.piece.Cut.{Cut}
-use Rattle.query_grammar.specs.Pieces.{is_blank, is_word, is_quote, is_special, is_control, closing, one_more, unquoted, quoted_value, of_one, of_two, after_less, after_greater, plain_cut, quoted_cut, inner_cut, opening_cut, first_cut}
+use Rattle.query_grammar.specs.Pieces.{is_blank, is_word, is_quote, is_control, closing, one_more, unquoted, quoted_value, of_one, of_two, after_less, after_greater, plain_cut, quoted_cut, inner_cut, opening_cut, first_cut}
 use Rattle.query_grammar.proofs.QuotedText.{unquoted-IsUtf8}
 
 -- what a cut has to be

@@ -1,11 +1,11 @@
 -- A fault stands at its place.
-use Rattle.std.proofs.Common.{◌≡◌, ℕ, List, [], ◌∷◌, ◌++◌, length, Option, Some, None, refl, sym, ap, ◌∙◌, subst, append_assoc, append-nil, arith}
+use Rattle.std.proofs.Common.{◌≡◌, ℕ, List, [], ◌∷◌, ◌++◌, length, Option, Some, None, refl, sym, ap, ◌∙◌, subst, append_assoc, arith}
 use Rattle.query_grammar.specs.declared.piece.Place.TheVariants.{Outside}
 use Rattle.query_grammar.specs.declared.fault.QueryKind.{QueryKind}
 use Rattle.query_grammar.specs.Tree.{Tree}
-use Rattle.query_grammar.specs.Pieces.{Piece, token, tokens, cuts, pieces, pieces_from, joined}
+use Rattle.query_grammar.specs.Pieces.{Piece, token, tokens, pieces}
 use Rattle.query_grammar.specs.Grammar.{QueryText}
-use Rattle.query_grammar.specs.Reading.{State, Step, goes, stops, step, start, Reading, fault, run, reading}
+use Rattle.query_grammar.specs.Reading.{State, goes, stops, step, start, fault, reading}
 use Rattle.query_grammar.specs.Places.{CanBegin, IsPlace}
 use Rattle.query_grammar.proofs.Complete.{result_of, behind-result, any-result}
 use Rattle.query_grammar.proofs.Lexing.{FrontCut}

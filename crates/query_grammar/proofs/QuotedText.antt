@@ -1,10 +1,10 @@
 -- What a quoted value means is text again.
-use Rattle.std.proofs.Common.{◌≡◌, ◌⊎◌, inl, inr, ℕ, ◌+◌, ◌<◌, ◌≤◌, ◌==◌, ltb, Bool, true, false, cond, ◌||◌, ◌&&◌, List, [], ◌∷◌, ◌++◌, length, take, drop, get_or, refl, sym, ap, ◌∙◌, subst, arith, lit≤, lit<}
-use Rattle.std.specs.Str.{IsUtf8, IsCharBoundary}
-use lib.Utf8.{encode, encodes, scalar, scalars, next, low_scalar}
-use Rattle.std.proofs.lemmas.Bool.{cases_Bool, cases_lt, ne_eqb, or_from, and_parts, cond-true, cond-false, eqb-true, ltb-false, ltb-true, cond_both}
+use Rattle.std.proofs.Common.{◌≡◌, inl, inr, ℕ, ◌+◌, ◌<◌, ◌≤◌, ◌==◌, ltb, Bool, true, false, ◌||◌, List, [], ◌∷◌, ◌++◌, length, refl, sym, ap, ◌∙◌, subst, arith, lit≤, lit<}
+use Rattle.std.specs.Str.{IsUtf8}
+use lib.Utf8.{encode, encodes, scalar, scalars, low_scalar}
+use Rattle.std.proofs.lemmas.Bool.{cases_lt, ne_eqb, or_from, and_parts, cond-false, cond_both}
 use Rattle.std.proofs.lemmas.Str.{IsUtf8-append, IsUtf8-nil, IsUtf8-encode, encode_ascii, length-encode, len_utf8_bounds}
-use Rattle.query_grammar.specs.Pieces.{unquoted, quoted_value}
+use Rattle.query_grammar.specs.Pieces.{unquoted}
 
 -- no byte is ASCII
 abbrev AllHigh : List ℕ → Type 0

@@ -1,5 +1,5 @@
 -- Where the reader stands behind the pieces that it read, and what may follow there.
-use Rattle.std.proofs.Common.{◌≡◌, ◌⊎◌, inl, inr, ℕ, suc, zero, ◌+◌, ◌<◌, ◌≤◌, ◌==◌, Bool, true, false, cond, List, [], ◌∷◌, ◌++◌, length, length-append, Option, Some, None, refl, sym, ap, ◌∙◌, subst, append_assoc, append-nil, arith}
+use Rattle.std.proofs.Common.{◌≡◌, ℕ, suc, zero, ◌==◌, Bool, true, false, cond, List, [], ◌∷◌, ◌++◌, Option, Some, None, refl, sym, ap, ◌∙◌, subst}
 use Rattle.std.proofs.lemmas.Bool.{eqb-true}
 use Rattle.deb_version.specs.declared.order.Relation.{Relation}
 use Rattle.query_grammar.specs.declared.piece.Place.{Place}
@@ -13,16 +13,13 @@ use Rattle.query_grammar.specs.declared.term.Begun.{Begun}
 use Rattle.query_grammar.specs.declared.term.Begun.TheVariants as so_far
 use Rattle.query_grammar.specs.declared.level.Next.{Next}
 use Rattle.query_grammar.specs.declared.level.Next.TheVariants.{Wanting, Having, Within}
-use Rattle.query_grammar.specs.declared.fault.QueryKind.{QueryKind}
-use Rattle.query_grammar.specs.Tree.{Tree, wanted, field}
-use Rattle.query_grammar.specs.Pieces.{Piece, Token, token, tokens, behind, gap, word, operator, lone, quoted, broken, mark, is_blank, is_word, next_place, quoted_value, joined}
+use Rattle.query_grammar.specs.Tree.{wanted, field}
+use Rattle.query_grammar.specs.Pieces.{Piece, token, is_blank, next_place, quoted_value}
 use Rattle.deb_version.specs.VersionText.{is_version}
 use Rattle.query_grammar.specs.Words.{is_package, is_field, is_arch, relation_of, may_test}
-use Rattle.query_grammar.specs.Reading.{Progress, goes_on, whole, ended, wrong, progress, braces_or, compared, valued, versioned, version_at, relation_at, value_at, test_at, arch_at, closed_by, package_at, field_at, at_end, begun, is_reference, as_reference, Level, State, Step, goes, stops, with_member, with_alternative, whole_level, empty_level, having_one, closed_group, after_whole, step_having, step_progress, begin_negation, begin_group, step_wanting, step_next, step, start}
-use Rattle.query_grammar.proofs.Sound.{Stands, StepHolds, step_holds, Stands-start, behind_append}
-use Rattle.query_grammar.proofs.Complete.{result_of, behind-result}
-use Rattle.query_grammar.proofs.Lexing.{NotFirst, Separates, IsSound, place_after}
-use Rattle.query_grammar.proofs.Fronts.{LastSeparates, AllSound}
+use Rattle.query_grammar.specs.Reading.{Progress, goes_on, whole, ended, wrong, progress, braces_or, compared, version_at, relation_at, value_at, test_at, arch_at, closed_by, package_at, field_at, begun, is_reference, Level, State, Step, goes, stops, with_member, closed_group, step_having, step_progress, begin_negation, begin_group, step_wanting, step_next, step}
+use Rattle.query_grammar.proofs.Lexing.{NotFirst, Separates}
+use Rattle.query_grammar.proofs.Fronts.{LastSeparates}
 
 -- behind these pieces a word may begin
 abbrev pub Open : List Piece → Type 0

@@ -1,15 +1,14 @@
 -- What is written is read back: the text of a tree that some text spells spells it.
-use Rattle.std.proofs.Common.{◌≡◌, ◌⊎◌, inl, inr, ℕ, suc, zero, ◌+◌, ◌<◌, Bool, true, false, cond, ◌||◌, List, [], ◌∷◌, ◌++◌, length, refl, sym, ap, ◌∙◌, subst, append_assoc, append-nil, arith, lit<}
+use Rattle.std.proofs.Common.{◌≡◌, inl, inr, ℕ, suc, zero, false, cond, ◌||◌, List, [], ◌∷◌, ◌++◌, refl, sym, ap, ◌∙◌, subst, append_assoc, append-nil, lit<}
 use Rattle.std.specs.List.{prefix_len}
 use Rattle.std.proofs.Common.{◌==◌}
 use Rattle.query_grammar.specs.declared.piece.Place.{Place}
 use Rattle.query_grammar.specs.declared.piece.Place.TheVariants.{Outside, BehindWord, Opening, Inside}
-use Rattle.query_grammar.specs.declared.piece.Shape.{Shape}
 use Rattle.query_grammar.specs.declared.piece.Shape.TheVariants.{Blank, Word, Mark}
-use Rattle.query_grammar.specs.Tree.{Tree, Trees, listed, any, all, negated, reference, wanted, field, nil, cons}
+use Rattle.query_grammar.specs.Tree.{Tree, listed, any, all, negated, reference, wanted, field, nil}
 use Rattle.query_grammar.specs.Pieces.{Piece, Token, tokens, mark, is_blank, is_word, plain_cut, next_place, pieces, joined}
-use Rattle.query_grammar.specs.Grammar.{One, AllOf, AnyOf, Between, Followed, Term, Negated, Grouped, all_of, any_of, QueryText}
-use Rattle.query_grammar.specs.Written.{is_any, is_all, in_parentheses, written, alternatives, more_alternatives, members, more_members}
+use Rattle.query_grammar.specs.Grammar.{One, AllOf, AnyOf, Between, Followed, Term, all_of, any_of, QueryText}
+use Rattle.query_grammar.specs.Written.{is_any, is_all, in_parentheses, written, alternatives, members}
 use Rattle.query_grammar.proofs.Lexing.{NotFirst, IsCut, FrontCut, place_after, pieces_are}
 use Rattle.query_grammar.proofs.Fronts.{joined-append, front_join}
 use Rattle.query_grammar.proofs.Reach.{IsOuter}

@@ -1,18 +1,17 @@
 -- What is written is cut into pieces again.
-use Rattle.std.proofs.Common.{◌≡◌, ◌⊎◌, inl, inr, ℕ, suc, zero, ◌+◌, ◌-◌, ◌<◌, ◌≤◌, ◌==◌, Bool, true, false, cond, not, ◌&&◌, ◌||◌, List, [], ◌∷◌, ◌++◌, length, length-append, take, drop, Option, Some, None, IsTrue, refl, sym, ap, ◌∙◌, subst, append_assoc, append-nil, arith, lit<}
+use Rattle.std.proofs.Common.{◌≡◌, ◌⊎◌, inl, inr, ℕ, suc, ◌+◌, ◌-◌, ◌<◌, ◌==◌, true, false, cond, not, ◌||◌, List, [], ◌∷◌, ◌++◌, length, length-append, take, Option, Some, refl, ap, ◌∙◌, append_assoc, arith, lit<}
 use Rattle.std.specs.List.{prefix_len, list_all}
 use Rattle.std.proofs.Math.Seq.{take-append_seam}
-use Rattle.std.proofs.lemmas.Bool.{cond_both, and_parts, cond-true, cond-false, not-true, true≢false, or_parts, eqb-true}
+use Rattle.std.proofs.lemmas.Bool.{cond_both, and_parts, cond-true, cond-false, not-true, or_parts}
 use Rattle.std.proofs.lemmas.Bool.Decides.{nat_tests}
 use Rattle.query_grammar.specs.declared.piece.Place.{Place}
 use Rattle.query_grammar.specs.declared.piece.Place.TheVariants.{Outside, BehindWord, Opening, Inside}
-use Rattle.query_grammar.specs.declared.piece.Shape.{Shape}
-use Rattle.query_grammar.specs.declared.piece.Shape.TheVariants.{Blank, Word, Operator, Lone, Quoted, Broken, Mark}
+use Rattle.query_grammar.specs.declared.piece.Shape.TheVariants.{Blank, Word, Operator, Quoted, Mark}
 use Rattle.query_grammar.specs.declared.query.Test.{Test}
 use Rattle.query_grammar.specs.declared.query.Test.TheVariants as test
-use Rattle.query_grammar.specs.Pieces.{Piece, Token, token, tokens, is_blank, is_word, is_quote, is_control, is_special, closing, one_more, unquoted, quoted_value, plain_cut, inner_cut, quoted_cut, opening_cut, first_cut, cut_of, next_place, joined}
-use Rattle.query_grammar.specs.Written.{test_text, is_plain, is_none, is_plain_character, escaped, value_text}
-use Rattle.query_grammar.proofs.Lexing.{cut_as, NotFirst, IsCut, FrontCut, place_after}
+use Rattle.query_grammar.specs.Pieces.{Piece, is_blank, is_word, is_quote, is_control, closing, one_more, unquoted, quoted_value, plain_cut, inner_cut, quoted_cut, opening_cut, cut_of}
+use Rattle.query_grammar.specs.Written.{test_text, escaped}
+use Rattle.query_grammar.proofs.Lexing.{cut_as, NotFirst, IsCut}
 
 -- a run of word characters
 pub record IsRun (text : List ℕ) : Type 0 where

@@ -1,14 +1,12 @@
 -- What is read is spelled so: the tokens behind each state of the reader, kept by each step.
-use Rattle.std.proofs.Common.{◌≡◌, ◌⊎◌, inl, inr, ℕ, suc, zero, ◌+◌, ◌==◌, Bool, true, false, cond, List, [], ◌∷◌, ◌++◌, length, refl, sym, ap, ◌∙◌, subst, append_assoc, append-nil, arith}
+use Rattle.std.proofs.Common.{◌≡◌, inl, inr, ℕ, suc, zero, ◌+◌, ◌==◌, Bool, true, false, cond, List, [], ◌∷◌, ◌++◌, length, refl, sym, ap, ◌∙◌, subst, append_assoc, append-nil, arith}
 use Rattle.std.proofs.lemmas.Bool.{eqb-true}
-use Rattle.query_grammar.specs.declared.term.Begun.{Begun}
 use Rattle.query_grammar.specs.declared.level.Next.{Next}
 use Rattle.query_grammar.specs.declared.level.Next.TheVariants.{Wanting, Having, Within}
-use Rattle.query_grammar.specs.declared.fault.QueryKind.{QueryKind}
 use Rattle.query_grammar.specs.Tree.{Tree}
-use Rattle.query_grammar.specs.Pieces.{Token, Piece, token, tokens, behind, gap, word, operator, lone, quoted, broken, mark}
+use Rattle.query_grammar.specs.Pieces.{Token, Piece, token, tokens, behind, gap, word, mark}
 use Rattle.query_grammar.specs.Grammar.{One, AnyOf, Term}
-use Rattle.query_grammar.specs.Reading.{Progress, goes_on, whole, ended, wrong, progress, at_end, begun, Level, State, Step, goes, stops, with_member, with_alternative, whole_level, empty_level, having_one, closed_group, step_having, step_progress, begin_negation, begin_group, step_wanting, step_next, step, Reading, tree, fault, finish_having, finish_progress, finish, start, run}
+use Rattle.query_grammar.specs.Reading.{Progress, goes_on, whole, ended, wrong, progress, at_end, begun, Level, State, Step, goes, stops, with_member, with_alternative, whole_level, closed_group, step_having, step_progress, begin_negation, begin_group, step_wanting, step_next, step, Reading, tree, fault, finish_having, finish_progress, finish, start, run}
 use Rattle.query_grammar.proofs.Stands.{Ready, Done, Ready-member, Ready-empty, Done-comma, Done-bar, Done-whole, bangs, bangs-more}
 use Rattle.query_grammar.proofs.Terms.{Begins, Makes, progress_makes, Ends, at_end-ends, begun_makes}
 

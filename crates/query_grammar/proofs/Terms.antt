@@ -1,5 +1,5 @@
 -- Terms that have begun: the tokens behind each, and what one more token makes of it.
-use Rattle.std.proofs.Common.{◌≡◌, ◌≢◌, ◌⊎◌, inl, inr, ℕ, ◌+◌, ◌<◌, ◌≤◌, ◌==◌, Bool, true, false, cond, ◌&&◌, List, [], ◌∷◌, ◌++◌, length, get_or, drop, Option, Some, None, IsTrue, refl, sym, ap, ◌∙◌, subst, append_assoc, append-nil, arith, rules}
+use Rattle.std.proofs.Common.{◌≡◌, ◌⊎◌, inl, inr, ℕ, ◌==◌, Bool, true, false, cond, List, [], ◌∷◌, ◌++◌, Option, Some, None, IsTrue, refl, sym, ap, ◌∙◌, subst, append_assoc, append-nil}
 use Rattle.std.proofs.lemmas.Bool.{eqb-true}
 use Rattle.deb_version.specs.VersionText.{is_version}
 use Rattle.deb_version.specs.declared.order.Relation.{Relation}
@@ -8,13 +8,12 @@ use Rattle.query_grammar.specs.declared.query.Test.{Test}
 use Rattle.query_grammar.specs.declared.query.Test.TheVariants as test
 use Rattle.query_grammar.specs.declared.term.Begun.{Begun}
 use Rattle.query_grammar.specs.declared.term.Begun.TheVariants as so_far
-use Rattle.query_grammar.specs.declared.fault.QueryKind.{QueryKind}
-use Rattle.query_grammar.specs.Tree.{Tree, reference, wanted, field}
-use Rattle.query_grammar.specs.Pieces.{Token, gap, word, operator, lone, quoted, broken, mark}
-use Rattle.query_grammar.specs.Words.{IsReference, is_package, is_plain_version, is_arch, is_field, is_underscore, relation_of, may_test}
+use Rattle.query_grammar.specs.Tree.{wanted, field}
+use Rattle.query_grammar.specs.Pieces.{Token, word, operator, lone, quoted, broken, mark}
+use Rattle.query_grammar.specs.Words.{is_package, is_arch, is_field, relation_of, may_test}
 use Rattle.query_grammar.proofs.WordFacts.{reference_parts}
 use Rattle.query_grammar.specs.Grammar.{Term, Related, Bound, Tested}
-use Rattle.query_grammar.specs.Reading.{Progress, goes_on, whole, ended, wrong, progress, versioned, version_at, compared, relation_at, valued, value_at, test_at, arch_at, closed_by, braces_or, package_at, field_at, at_end, begun, is_reference}
+use Rattle.query_grammar.specs.Reading.{Progress, goes_on, whole, ended, wrong, progress, version_at, compared, relation_at, valued, value_at, test_at, arch_at, closed_by, braces_or, package_at, field_at, at_end, begun, is_reference}
 
 -- the tokens of a term that has begun
 abbrev pub Begins : Begun → List Token → Type 0

@@ -1,30 +1,22 @@
 -- The place of a fault: some query begins with the pieces that were read, and none with one piece more.
-use Rattle.std.proofs.Common.{◌≡◌, ◌⊎◌, inl, inr, ℕ, suc, zero, ◌+◌, ◌<◌, ◌≤◌, ◌==◌, Bool, true, false, cond, List, [], ◌∷◌, ◌++◌, length, length-append, Option, Some, None, refl, sym, ap, ◌∙◌, subst, append_assoc, append-nil, add-zero, arith}
-use Rattle.std.specs.List.{prefix_len}
+use Rattle.std.proofs.Common.{◌≡◌, ℕ, ◌+◌, List, [], ◌∷◌, ◌++◌, length, length-append, Option, None, refl, sym, ap, ◌∙◌, subst, append_assoc, append-nil, arith}
 use Rattle.query_grammar.specs.declared.piece.Place.{Place}
-use Rattle.query_grammar.specs.declared.piece.Place.TheVariants.{Outside, BehindWord, Opening, Inside}
+use Rattle.query_grammar.specs.declared.piece.Place.TheVariants.{Outside}
 use Rattle.query_grammar.specs.declared.piece.Shape.{Shape}
 use Rattle.query_grammar.specs.declared.piece.Shape.TheVariants.{Blank, Word, Operator, Lone, Quoted, Broken, Mark}
-use Rattle.query_grammar.specs.declared.query.Test.{Test}
-use Rattle.query_grammar.specs.declared.query.Test.TheVariants as test
-use Rattle.deb_version.specs.declared.order.Relation.{Relation}
-use Rattle.deb_version.specs.declared.order.Relation.TheVariants as relation
 use Rattle.query_grammar.specs.declared.term.Begun.{Begun}
 use Rattle.query_grammar.specs.declared.term.Begun.TheVariants as so_far
 use Rattle.query_grammar.specs.declared.level.Next.{Next}
 use Rattle.query_grammar.specs.declared.level.Next.TheVariants.{Wanting, Having, Within}
 use Rattle.query_grammar.specs.declared.fault.QueryKind.{QueryKind}
-use Rattle.query_grammar.specs.Tree.{Tree, wanted, field}
-use Rattle.query_grammar.specs.Pieces.{Piece, Token, token, tokens, behind, gap, word, operator, lone, quoted, broken, mark, is_blank, is_word, plain_cut, inner_cut, opening_cut, next_place, cuts, pieces, pieces_from, joined}
-use Rattle.query_grammar.specs.Words.{is_package, is_field, is_arch, relation_of, may_test}
-use Rattle.query_grammar.specs.Grammar.{One, AnyOf, QueryText}
-use Rattle.query_grammar.specs.Reading.{Progress, goes_on, whole, ended, wrong, progress, at_end, begun, Level, State, Step, goes, stops, with_member, whole_level, having_one, step_having, step, start, Reading, tree, fault, finish_having, finish_progress, finish, step_wanting, run, reading}
-use Rattle.query_grammar.specs.Places.{CanBegin, IsPlace}
-use Rattle.query_grammar.proofs.Sound.{Stands, StepHolds, step_holds, Stands-start, behind_append, run_holds, ReadHolds}
-use Rattle.query_grammar.proofs.Complete.{result_of, behind-result, any-result, result-run}
-use Rattle.query_grammar.proofs.Lexing.{NotFirst, Separates, IsSound, IsCut, FrontCut, place_after, pieces_are}
-use Rattle.query_grammar.proofs.Fronts.{joined-append, LastSeparates, AllSound, cuts_front, front_split, front_join, other_end}
-use Rattle.query_grammar.proofs.Reach.{NextAt, BegunAt, StepAt, step-at, IsOuter, Open}
+use Rattle.query_grammar.specs.Tree.{Tree}
+use Rattle.query_grammar.specs.Pieces.{Piece, token, tokens, behind, lone, broken, next_place, joined}
+use Rattle.query_grammar.specs.Reading.{Progress, goes_on, whole, ended, wrong, progress, at_end, Level, State, Step, goes, stops, with_member, step_having, step, start, Reading, fault, finish_having, finish_progress, finish, step_wanting, run}
+use Rattle.query_grammar.proofs.Sound.{Stands, StepHolds, step_holds, Stands-start, behind_append}
+use Rattle.query_grammar.proofs.Complete.{result_of, behind-result}
+use Rattle.query_grammar.proofs.Lexing.{IsSound, place_after}
+use Rattle.query_grammar.proofs.Fronts.{joined-append, AllSound}
+use Rattle.query_grammar.proofs.Reach.{NextAt, StepAt, step-at}
 
 pub tokens-append : (ps qs : List Piece) → tokens (ps ++ qs) ≡ tokens ps ++ tokens qs
 tokens-append [] qs = refl

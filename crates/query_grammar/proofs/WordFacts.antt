@@ -1,19 +1,19 @@
 -- The three kinds of word that begin a term exclude each other, and a reference is cut at its first two `_`.
-use Rattle.std.proofs.Common.{◌≡◌, ◌⊎◌, inl, inr, ℕ, suc, ◌+◌, ◌<◌, ◌≤◌, ◌==◌, Bool, true, false, cond, not, ◌&&◌, ◌||◌, nat_le, List, [], ◌∷◌, ◌++◌, length, get_or, take, drop, IsTrue, codes, refl, sym, ap, ◌∙◌, subst, arith}
+use Rattle.std.proofs.Common.{◌≡◌, inl, inr, ℕ, suc, ◌+◌, ◌<◌, ◌==◌, Bool, true, false, cond, not, ◌&&◌, List, [], ◌∷◌, ◌++◌, length, get_or, take, codes, refl, sym, ap, ◌∙◌, subst, arith}
 use Rattle.std.specs.Str.{bytes_eq}
-use Rattle.std.specs.List.{before_first, after_first, position_or_len, list_all}
+use Rattle.std.specs.List.{before_first, after_first, position_or_len}
 use Rattle.std.proofs.lemmas.List.{drop_all}
 use Rattle.std.proofs.Math.Seq.{take-append_seam, drop-append-add}
 use Rattle.std.proofs.lemmas.List.Folds.{list_all-append}
 use Rattle.std.proofs.lemmas.List.Sums.{split_at_first, passes_at_first}
-use Rattle.std.proofs.lemmas.Bool.{eqb-true, and_parts, or_cases, not-true, true≢false, false_from_ne_true, cases_lt, and_from, and_right, cond-true, cond-false, lt-leb, both_ways}
+use Rattle.std.proofs.lemmas.Bool.{eqb-true, and_parts, or_cases, not-true, true≢false, false_from_ne_true, cases_lt, and_from, and_right, cond-true, cond-false}
 use Rattle.std.proofs.Math.Bool.{and-true}
 use Rattle.std.proofs.lemmas.Bool.Decides.{nat_tests}
 use Rattle.std.proofs.lemmas.Slice.Eq.{bytes_eq-Decides}
 use Rattle.ap_text.specs.Names.{is_name}
 use Rattle.deb_version.specs.VersionText.{is_version}
 use Rattle.query_grammar.specs.Words.{IsReference, is_package, is_plain_version, is_arch, is_field, is_underscore, is_lower_or_digit, is_upper, is_special_field, has_no_underscore}
-use Rattle.query_grammar.specs.Reading.{Progress, goes_on, whole, wrong, begun, is_reference, as_reference, reference_in}
+use Rattle.query_grammar.specs.Reading.{goes_on, whole, wrong, begun, is_reference, as_reference, reference_in}
 use Rattle.query_grammar.specs.declared.term.Begun.TheVariants.{Package, Field}
 use Rattle.query_grammar.specs.declared.fault.QueryKind.TheVariants.{WantTerm}
 use Rattle.query_grammar.specs.Tree.{reference}

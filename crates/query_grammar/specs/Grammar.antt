@@ -6,7 +6,7 @@ use Rattle.deb_version.specs.declared.order.Relation.{Relation}
 use Rattle.deb_version.specs.declared.order.Relation.TheVariants as relation
 use Rattle.query_grammar.specs.declared.query.Test.{Test}
 use Rattle.query_grammar.specs.declared.query.Test.TheVariants as test
-use Rattle.query_grammar.specs.Tree.{Tree, Trees, listed, any, all, negated, reference, wanted, field}
+use Rattle.query_grammar.specs.Tree.{Tree, listed, any, all, negated, reference, wanted, field}
 use Rattle.query_grammar.specs.Pieces.{Token, word, operator, quoted, mark, pieces, tokens}
 use Rattle.query_grammar.specs.Words.{IsReference, is_package, is_arch, is_field, relation_of, may_test}
 

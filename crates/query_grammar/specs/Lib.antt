@@ -7,3 +7,4 @@ pub mod Views
 pub mod Answers
 pub mod Places
 pub mod Written
+pub mod TreeCode

@@ -1,5 +1,5 @@
 -- How the text of a query is cut into pieces. All characters beyond ASCII are word characters, so bytes decide.
-use Rattle.std.specs.Prelude.{ℕ, suc, zero, ◌+◌, ◌-◌, Bool, true, false, not, ◌&&◌, ◌||◌, ◌==◌, nat_le, nat_lt, List, [], ◌∷◌, ◌++◌, length, take, drop, Option, Some, None, if◌then◌else◌, filter}
+use Rattle.std.specs.Prelude.{ℕ, suc, zero, ◌-◌, Bool, true, false, not, ◌&&◌, ◌||◌, ◌==◌, nat_le, nat_lt, List, [], ◌∷◌, ◌++◌, length, take, drop, Option, Some, None, if◌then◌else◌}
 use Rattle.std.specs.List.{prefix_len}
 use Rattle.query_grammar.specs.declared.query.Test.{Test}
 use Rattle.query_grammar.specs.declared.query.Test.TheVariants.{Equal, Less, LessEqual, GreaterEqual, Greater, Glob, Pattern}

@@ -1,6 +1,6 @@
 -- What the words of a query are: references, names of packages and of fields, architectures, versions.
-use Rattle.std.specs.Prelude.{◌≡◌, ℕ, Bool, true, false, not, ◌&&◌, ◌||◌, ◌==◌, nat_le, List, [], ◌∷◌, ◌++◌, slice_index, bytes_eq, codes, IsTrue, Option, Some, None}
-use Rattle.std.specs.List.{list_all, before_first, after_first}
+use Rattle.std.specs.Prelude.{◌≡◌, ℕ, Bool, true, false, not, ◌&&◌, ◌||◌, ◌==◌, nat_le, List, ◌∷◌, ◌++◌, slice_index, bytes_eq, codes, IsTrue, Option, Some, None}
+use Rattle.std.specs.List.{list_all}
 use Rattle.ap_text.specs.Names.{is_name}
 use Rattle.deb_version.specs.VersionText.{is_version}
 use Rattle.deb_version.specs.declared.order.Relation.{Relation}

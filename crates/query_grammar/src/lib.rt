@@ -11,6 +11,8 @@ mod query;
 mod read;
 mod reader;
 mod term;
+#[cfg(test)]
+mod tests;
 mod value;
 mod words;
 mod write;

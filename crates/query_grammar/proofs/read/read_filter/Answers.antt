@@ -1,10 +1,10 @@
-use Rattle.std.proofs.Common.{◌≡◌, ℕ, List, Result, Ok, Err, IfOk, IfErr, sym, ◌∙◌, ap}
+use Rattle.std.proofs.Common.{◌≡◌, ℕ, List, Result, Ok, Err, IfOk, IfErr, sym, ◌∙◌}
 use Rattle.query_grammar.specs.declared.query.Query.{Query}
 use Rattle.query_grammar.specs.declared.fault.QueryFault.{QueryFault}
 use Rattle.query_grammar.specs.declared.fault.QueryFault.TheVariants.{At, OutOfMemory}
 use Rattle.query_grammar.specs.Tree.{Tree, plain}
 use Rattle.query_grammar.specs.Grammar.{QueryText}
-use Rattle.query_grammar.specs.Reading.{Reading, tree, fault, reading}
+use Rattle.query_grammar.specs.Reading.{tree, fault, reading}
 use Rattle.query_grammar.specs.Views.{Reads}
 use Rattle.query_grammar.specs.Answers.{IsTree, IsFilterFault}
 use Rattle.query_grammar.proofs.PlaceOf.{reading_place}

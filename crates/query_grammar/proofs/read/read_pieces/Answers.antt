@@ -1,9 +1,9 @@
-use Rattle.std.proofs.Common.{rules, ◌≡◌, ◌+◌, ◌<◌, length, sym, ap, ◌∙◌, arith}
+use Rattle.std.proofs.Common.{rules, ◌+◌, ◌<◌, length, sym, ap, ◌∙◌, arith}
 use Rattle.query_grammar.specs.Pieces.{pieces_from}
 use Rattle.query_grammar.specs.declared.piece.Place.TheVariants.{Outside}
-use Rattle.query_grammar.specs.Reading.{run, reading}
+use Rattle.query_grammar.specs.Reading.{run}
 use Rattle.query_grammar.specs.Views.{reader_view}
-use Rattle.query_grammar.proofs.Turns.{run_goes, run_stops, run_ends, reading_begins}
+use Rattle.query_grammar.proofs.Turns.{run_goes, reading_begins}
 use Rattle.query_grammar.proofs.read.read_pieces.Goals as goal
 
 pub loop-rest-init : goal.loop-rest-init

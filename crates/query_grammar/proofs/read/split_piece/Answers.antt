@@ -1,7 +1,7 @@
-use Rattle.std.proofs.Common.{◌≡◌, ◌<◌, ◌≤◌, ℕ, length, take, drop, length-drop, subst, sym, ap, ◌∙◌, arith}
+use Rattle.std.proofs.Common.{◌≡◌, ◌<◌, take, subst, sym, arith}
 use Rattle.std.proofs.lemmas.Grind.{common_steps}
 use Rattle.std.specs.Str.{IsUtf8, IsCharBoundary}
-use Rattle.query_grammar.specs.Pieces.{cut_of, quoted_value, IfQuoted}
+use Rattle.query_grammar.specs.Pieces.{quoted_value, IfQuoted}
 use Rattle.query_grammar.proofs.Cuts.{cut_boundary, cut_positive, cut_quoted}
 use Rattle.query_grammar.proofs.read.split_piece.Goals as goal
 
