@@ -35,23 +35,30 @@ has_other_digest fields =
     is_other (is_digest 32) (value_of fields (codes "SHA256")) || is_other (is_digest 20) (value_of fields (codes "SHA1"))
     || is_other (is_digest 16) (value_of fields (codes "MD5sum"))
 
--- the first field, in the order of the faults, that is there and isn't what it should be
-unfoldable pub first_bad : List Field → Option PackageFault
-first_bad fields =
+-- the first of the fields of the package itself that is there and isn't what it should be
+unfoldable pub bad_identity : List Field → Option PackageFault
+bad_identity fields =
     if is_other is_package_name (value_of fields (codes "Package")) then Some BadName
     else if is_other is_version (value_of fields (codes "Version")) then Some BadVersion
     else if is_other is_architecture (value_of fields (codes "Architecture")) then Some BadArchitecture
     else if is_other is_source (value_of fields (codes "Source")) then Some BadSource
-    else if is_other (λ text. is_file_path (without_dots text)) (value_of fields (codes "Filename")) then Some BadPath
-    else if is_other is_number (value_of fields (codes "Size")) then Some BadNumber
+    else None
+
+unfoldable pub bad_path : List Field → Option PackageFault
+bad_path fields = if is_other (λ text. is_file_path (without_dots text)) (value_of fields (codes "Filename")) then Some BadPath else None
+
+-- the first of the facts of the file that is there and isn't what it should be
+unfoldable pub bad_said : List Field → Option PackageFault
+bad_said fields =
+    if is_other is_number (value_of fields (codes "Size")) then Some BadNumber
     else if has_other_digest fields then Some BadDigest
     else None
 
 -- what keeps a stanza from being a binary stanza: the first fault in their order
 unfoldable pub fault_of : List Field → Option PackageFault
-fault_of fields = option_or (option_map Missing (first_missing fields)) (first_bad fields)
+fault_of fields = option_or (option_map Missing (first_missing fields)) (option_or (bad_identity fields) (option_or (bad_path fields) (bad_said fields)))
 
--- the fault is the stanza's; want of memory is nobody's
-abbrev pub IsFault : List Field → PackageFault → Type 0
-IsFault fields OutOfMemory = Unit {0}
-IsFault fields fault = fault_of fields ≡ Some fault
+-- the error is this fault; want of memory is nobody's
+abbrev pub FaultIs : Option PackageFault → PackageFault → Type 0
+FaultIs fault OutOfMemory = Unit {0}
+FaultIs fault e = fault ≡ Some e

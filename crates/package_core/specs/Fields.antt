@@ -1,11 +1,11 @@
 -- What the fields of a binary stanza are (Debian Policy 5.3; the Packages index of the Debian repository format).
-use Rattle.std.specs.Prelude.{ℕ, ◌^◌, Bool, false, not, ◌&&◌, ◌||◌, ◌==◌, nat_lt, nat_le, nat_eq, List, [], ◌∷◌, length, filter, codes, bytes_eq, Option, Some, None, is_some, unwrap_or, if◌then◌else◌}
-use Rattle.std.specs.List.{list_all, after_last}
+use Rattle.std.specs.Prelude.{ℕ, ◌^◌, Bool, false, not, ◌&&◌, ◌||◌, ◌==◌, nat_lt, nat_le, nat_eq, List, [], ◌∷◌, length, filter, codes, bytes_eq, Option, Some, None, is_some, unwrap_or, slice_index, if◌then◌else◌}
+use Rattle.std.specs.List.{list_all}
 use Rattle.std.specs.Result.{result_ok}
 use Rattle.std.specs.Str.Parse.{digits_value}
 use Rattle.hex.specs.Hex.{decode_sized}
 use Rattle.ap_text.specs.Names.{is_name}
-use Rattle.ap_text.specs.Paths.{is_safe_path}
+use Rattle.ap_text.specs.Paths.{is_safe_path, segments}
 use Rattle.control_stanza.specs.declared.stanza.Field.{Field}
 use Rattle.control_stanza.specs.Fields.{same_name, value_of}
 use Rattle.deb_version.specs.Cuts.{is_digit}
@@ -43,14 +43,22 @@ without_dots (a ∷ b ∷ rest) = if a == 46 && b == 47 then without_dots rest e
 abbrev pub is_file_path : List ℕ → Bool
 is_file_path path = nat_le (length path) 700 && is_safe_path path
 
--- what follows the last slash
-abbrev pub last_segment : List ℕ → List ℕ
-last_segment path = after_last (λ b. b == 47) path
+-- the last of some segments
+abbrev pub last_of : List (List ℕ) → List ℕ
+last_of [] = []
+last_of (s ∷ []) = s
+last_of (s ∷ t ∷ ss) = last_of (t ∷ ss)
 
--- decimal digits, none of them a leading zero, of a value below 2^64
+abbrev pub last_segment : List ℕ → List ℕ
+last_segment path = last_of (segments path)
+
+-- one or more decimal digits, of which more than one don't begin with 0
+unfoldable pub is_decimal : List ℕ → Bool
+is_decimal text = nat_lt 0 (length text) && list_all is_digit text && (nat_eq (length text) 1 || not (slice_index text 0 == 48))
+
+-- such digits, of a value below 2^64
 abbrev pub is_number : List ℕ → Bool
-is_number [] = false
-is_number (c ∷ cs) = list_all is_digit (c ∷ cs) && (not (c == 48) || nat_eq (length cs) 0) && nat_lt (digits_value 10 (c ∷ cs)) (2 ^ 64)
+is_number text = is_decimal text && nat_lt (digits_value 10 text) (2 ^ 64)
 
 -- the bytes that so many pairs of hexadecimal digits, of either case, stand for
 abbrev pub digest : ℕ → List ℕ → Option (List ℕ)

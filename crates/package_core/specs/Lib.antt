@@ -1,5 +1,6 @@
 pub mod Source
 pub mod Fields
 pub mod Faults
+pub mod Answers
 pub mod Card
 pub mod Order

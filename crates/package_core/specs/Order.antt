@@ -14,19 +14,14 @@ text_cmp = slice_cmp nat_cmp
 -- name, architecture, the order of versions, the bytes of the version
 unfoldable pub triple_cmp : Card → Card → Ordering
 triple_cmp a b =
-    ordering_then (ordering_then (ordering_then
-    (text_cmp a.name b.name)
-    (text_cmp a.arch b.arch))
-    (version_cmp a.version b.version))
-    (text_cmp a.version b.version)
+    ordering_then (text_cmp a.name b.name)
+    (ordering_then (text_cmp a.arch b.arch) (ordering_then (version_cmp a.version b.version) (text_cmp a.version b.version)))
 
 -- the stanza's bytes, the file's name, the file's SHA-256
 unfoldable pub body_cmp : Card → Card → Ordering
 body_cmp a b =
-    ordering_then (ordering_then
-    (text_cmp (stanza_text a.stanza) (stanza_text b.stanza))
-    (text_cmp a.file b.file))
-    (text_cmp a.said.sha256 b.said.sha256)
+    ordering_then (text_cmp (stanza_text a.stanza) (stanza_text b.stanza))
+    (ordering_then (text_cmp a.file b.file) (text_cmp a.said.sha256 b.said.sha256))
 
 -- the order of packages
 unfoldable pub package_cmp : Card → Card → Ordering

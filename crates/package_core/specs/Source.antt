@@ -1,7 +1,7 @@
 -- The value of a field Source: `name` or `name (version)` (Debian Policy 5.6.1).
-use Rattle.std.specs.Prelude.{◌≡◌, ℕ, ◌-◌, Bool, false, not, ◌&&◌, ◌||◌, ◌==◌, List, [], ◌∷◌, ◌++◌, length, take, drop, reverse, IsTrue, Option, Some, None, if◌then◌else◌}
-use Rattle.std.specs.List.{list_any, list_all, position_or_len, before_first, after_first, ends_with}
-use Rattle.std.specs.Prelude.{nat_eq}
+use Rattle.std.specs.Prelude.{◌≡◌, ℕ, ◌+◌, ◌-◌, Bool, false, not, ◌&&◌, ◌||◌, ◌==◌, nat_eq, List, [], ◌∷◌, ◌++◌, length, take, drop, reverse, position, IsTrue, Option, Some, None, if◌then◌else◌}
+use Rattle.std.specs.List.{list_all, take_while}
+use Rattle.std.specs.Option.{option_map}
 use Rattle.ap_text.specs.Names.{is_package_name}
 use Rattle.deb_version.specs.VersionText.{is_version}
 
@@ -12,27 +12,38 @@ is_gap c = c == 32 || c == 9 || c == 10
 abbrev pub is_opening : ℕ → Bool
 is_opening c = c == 40
 
--- without gaps in front
-abbrev pub without_gaps_before : List ℕ → List ℕ
-without_gaps_before text = drop (position_or_len (λ c. not (is_gap c)) text) text
+-- how many gaps stand in front
+abbrev pub gaps_before : List ℕ → ℕ
+gaps_before text = length (take_while is_gap text)
 
--- without gaps at the end
+-- how many stand at the end
+abbrev pub gaps_behind : List ℕ → ℕ
+gaps_behind text = length (take_while is_gap (reverse text))
+
+abbrev pub without_gaps_before : List ℕ → List ℕ
+without_gaps_before text = drop (gaps_before text) text
+
 abbrev pub without_gaps_behind : List ℕ → List ℕ
-without_gaps_behind text = take (length text - position_or_len (λ c. not (is_gap c)) (reverse text)) text
+without_gaps_behind text = take (length text - gaps_behind text) text
 
 -- what stands before the `)` that ends a text
 abbrev pub before_closing : List ℕ → Option (List ℕ)
-before_closing text = if ends_with nat_eq text (41 ∷ []) then Some (take (length text - 1) text) else None
+before_closing [] = None
+before_closing (c ∷ []) = if c == 41 then Some [] else None
+before_closing (c ∷ d ∷ ds) = option_map (λ front. c ∷ front) (before_closing (d ∷ ds))
 
 -- the two texts that a source names
 abbrev pub named : List ℕ → Option (List ℕ) → Option (List ℕ × Option (List ℕ))
 named before None = None
 named before (Some inside) = Some (without_gaps_behind before, Some (without_gaps_behind (without_gaps_before inside)))
 
+abbrev pub parts_at : List ℕ → Option ℕ → Option (List ℕ × Option (List ℕ))
+parts_at text None = Some (text, None)
+parts_at text (Some n) = named (take n text) (before_closing (drop (n + 1) text))
+
 -- The name and, in parentheses, the version, whatever they are; none where a parenthesis is not closed at the end.
 unfoldable pub source_parts : List ℕ → Option (List ℕ × Option (List ℕ))
-source_parts text =
-    if list_any is_opening text then named (before_first is_opening text) (before_closing (after_first is_opening text)) else Some (text, None)
+source_parts text = parts_at text (position is_opening text)
 
 -- they are a package name and, where it is there, a version
 abbrev pub are_source : Option (List ℕ × Option (List ℕ)) → Bool

@@ -3,6 +3,10 @@
 
 mod fault;
 mod package;
+mod path;
+mod reading;
+mod said;
+mod source;
 
 pub use fault::{CompleteFault, PackageFault, Required};
 pub use package::Package;

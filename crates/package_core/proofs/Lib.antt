@@ -1,0 +1,4 @@
+pub mod PathLemmas
+pub mod SourceLemmas
+pub mod NumberLemmas
+pub mod OwnLemmas
