@@ -1,8 +1,11 @@
 -- How code answers what is read of a field.
-use Rattle.std.specs.Prelude.{◌≡◌, Bool, true, false, List, Some, codes, Result, Ok, Err}
+use Rattle.std.specs.Prelude.{◌≡◌, Bool, true, false, ℕ, List, Option, Some, IsSome, codes, Result, Ok, Err}
 use Rattle.control_stanza.specs.declared.stanza.Field.{Field}
 use Rattle.control_stanza.specs.Fields.{value_of}
 use Rattle.package_core.specs.declared.reading.Texts.{Texts}
+use Rattle.digest_set.specs.declared.facts.What.{What}
+use Rattle.package_core.specs.declared.fault.CompleteFault.{CompleteFault}
+use Rattle.package_core.specs.declared.fault.CompleteFault.TheVariants as complete_faults
 use Rattle.package_core.specs.declared.fault.PackageFault.{PackageFault}
 use Rattle.package_core.specs.declared.fault.PackageFault.TheVariants.{OutOfMemory}
 
@@ -23,3 +26,8 @@ pub record HasTexts (fields : List Field) (texts : Texts) : Type 0 where
   pub filename : value_of fields (codes "Filename") ≡ Some texts.filename.now
   pub size : value_of fields (codes "Size") ≡ Some texts.size.now
   pub sha256 : value_of fields (codes "SHA256") ≡ Some texts.sha256.now
+
+-- the error is this difference; memory is wanted only where there is one
+abbrev pub IsDifference : Option (What × List ℕ × List ℕ) → CompleteFault → Type 0
+IsDifference difference complete_faults.OutOfMemory = IsSome difference
+IsDifference difference (complete_faults.Differs what said found) = difference ≡ Some (what, said, found)

@@ -4,3 +4,4 @@ pub mod Faults
 pub mod Answers
 pub mod Card
 pub mod Order
+pub mod Left

@@ -1,7 +1,9 @@
 //! Packages: what a binary stanza says of one, its identity, its order and its text.
 #![tactic(auto)]
 
+mod bytes;
 mod fault;
+mod order;
 mod package;
 mod path;
 mod reading;
@@ -9,4 +11,5 @@ mod said;
 mod source;
 
 pub use fault::{CompleteFault, PackageFault, Required};
+pub use order::{compare_packages, has_same_triple};
 pub use package::Package;
