@@ -2,3 +2,5 @@ pub mod PathLemmas
 pub mod SourceLemmas
 pub mod NumberLemmas
 pub mod OwnLemmas
+pub mod TextLemmas
+pub mod PackageLemmas

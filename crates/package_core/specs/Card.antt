@@ -66,7 +66,7 @@ abbrev pub said_of : Digests → Said
 said_of found = record { size = found.size; sha256 = found.sha256; sha1 = Some found.sha1; md5 = Some found.md5 }
 
 -- the package with the facts that were found of its file
-unfoldable pub completed : Card → Digests → Card
+abbrev pub completed : Card → Digests → Card
 completed p found = record p { said = said_of found }
 
 abbrev pub source_or_own : Card → Option (List ℕ × Option (List ℕ)) → List ℕ × List ℕ
@@ -86,10 +86,14 @@ triple p = p.name ++ 95 ∷ (p.version ++ 95 ∷ p.arch)
 abbrev pub line : List ℕ → List ℕ → List ℕ
 line name value = name ++ 58 ∷ 32 ∷ (value ++ 10 ∷ [])
 
--- The text of a complete package: its stanza, then what is known of its file.
-unfoldable pub package_text : Card → List ℕ
-package_text p =
-    stanza_text p.stanza ++ line (codes "Filename") p.file ++ line (codes "Size") (decimal p.said.size)
+-- What is known of the file of a complete package. Of another one the lines of the missing digests are without digits.
+unfoldable pub file_text : Card → List ℕ
+file_text p =
+    line (codes "Filename") p.file ++ line (codes "Size") (decimal p.said.size)
     ++ line (codes "MD5sum") (encode_lower (unwrap_or p.said.md5 []))
     ++ line (codes "SHA1") (encode_lower (unwrap_or p.said.sha1 []))
     ++ line (codes "SHA256") (encode_lower p.said.sha256)
+
+-- The text of a complete package: its stanza, then what is known of its file.
+unfoldable pub package_text : Card → List ℕ
+package_text p = stanza_text p.stanza ++ file_text p

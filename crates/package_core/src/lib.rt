@@ -9,6 +9,7 @@ mod path;
 mod reading;
 mod said;
 mod source;
+mod text;
 
 pub use fault::{CompleteFault, PackageFault, Required};
 pub use order::{compare_packages, has_same_triple};

@@ -2,12 +2,13 @@
 ghost use Rattle.std.specs.Prelude.{◌≡◌, None, IfOk, IfErr, OnOk, OnErr};
 ghost use Rattle.digest_set.specs.Difference.{difference};
 ghost use Rattle.package_core.specs.Answers.{IsDifference};
-ghost use Rattle.package_core.specs.Card.{IsPackage, card_of, path_in, completed, source_of, triple as triple_of};
+ghost use Rattle.package_core.specs.Card.{IsPackage, card_of, path_in, completed, source_of, triple as triple_of, package_text};
 ghost use Rattle.package_core.specs.Faults.{fault_of, FaultIs};
 
 use crate::fault::{CompleteFault, PackageFault};
 use crate::reading::read_package;
 use crate::source::parts;
+use crate::text::text_of;
 use ap_text::{Name, SafePath};
 use control_stanza::{Stanza, Text};
 use deb_version::Version;
@@ -56,7 +57,6 @@ impl Package {
 
     /// Fills in what was found of the file, where it agrees with all that is said of it. The first difference, in the
     /// order of [`What`](digest_set::What), is told, and the package then stays as it was.
-    #[tactic(auto, unfolding(crate::specs::Card::completed))]
     pub fn complete(&mut self, alloc: Global, found: &Digests) -> Result<(), CompleteFault>
         ensures ok { OnOk result (self.new ≡ completed self.old found.now) }
         ensures agrees { OnOk result (difference self.old.said found.now ≡ None) }
@@ -78,7 +78,8 @@ impl Package {
     /// The name and the version of the source that the package was built from (Debian Policy 5.6.1).
     #[tactic(auto, unfolding(crate::specs::Card::source_of))]
     pub fn source(&self) -> (&str, &str)
-        ensures { (result.0.now, result.1.now) ≡ source_of self.now }
+        ensures name { result.0.now ≡ (source_of self.now).0 }
+        ensures version { result.1.now ≡ (source_of self.now).1 }
     {
         match self.stanza.get("Source") {
             None => self.own_source(),
@@ -90,7 +91,8 @@ impl Package {
     }
 
     fn own_source(&self) -> (&str, &str)
-        ensures { (result.0.now, result.1.now) ≡ (self.now.name, self.now.version) }
+        ensures name { result.0.now ≡ self.now.name }
+        ensures version { result.1.now ≡ self.now.version }
     {
         (self.name.as_str(), self.version.as_str())
     }
@@ -102,6 +104,15 @@ impl Package {
     {
         let text = format!(in alloc; "{}_{}_{}", self.name.as_str(), self.version.as_str(), self.arch.as_str())?;
         Text::new(alloc, text.as_str())
+    }
+
+    /// The text by which a store keeps a package: its stanza, and then `Filename`, `Size`, `MD5sum`, `SHA1` and `SHA256`.
+    /// It is meant for complete packages: a digest that isn't known has a line without digits. Fails only for want of
+    /// memory.
+    pub fn text(&self, alloc: Global) -> Result<Text, AllocError>
+        ensures { IfOk result (λ text. text ≡ package_text self.now) }
+    {
+        text_of(alloc, self)
     }
 
     /// The same package once more. Fails only for want of memory.

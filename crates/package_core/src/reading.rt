@@ -1,8 +1,8 @@
 //! The package of a binary stanza.
-ghost use Rattle.std.specs.Prelude.{◌≡◌, ◌∷◌, [], MatchResult, IfOk, IfErr, Some, None, List};
+ghost use Rattle.std.specs.Prelude.{◌≡◌, ◌∷◌, [], MatchResult, IfOk, IfErr, Some, None, List, true};
 ghost use Rattle.ap_text.specs.Names.{is_package_name as package_name};
 ghost use Rattle.ap_text.specs.Paths.{segments};
-ghost use Rattle.control_stanza.specs.Fields.{value_of};
+ghost use Rattle.control_stanza.specs.Fields.{value_of, is_stanza};
 ghost use Rattle.deb_version.specs.VersionText.{is_version};
 ghost use Rattle.package_core.specs.Fields.{is_architecture, own_fields};
 ghost use Rattle.package_core.specs.Faults.{field_name, fault_of, bad_identity, bad_said, FaultIs};
@@ -150,7 +150,8 @@ fn read_said(stanza: &Stanza, texts: Texts<'_>) -> Result<Said, PackageFault>
 
 /// The stanza without the fields that speak of the file.
 fn own_stanza(alloc: Global, stanza: &Stanza) -> Result<Stanza, AllocError>
-    ensures { IfOk result (λ own. own ≡ own_fields stanza.now) }
+    ensures own { IfOk result (λ own. own ≡ own_fields stanza.now) }
+    ensures stanza { IfOk result (λ own. is_stanza own ≡ true) }
 {
     let mut own = stanza.copy(alloc)?;
     own.remove("Filename");
@@ -159,6 +160,8 @@ fn own_stanza(alloc: Global, stanza: &Stanza) -> Result<Stanza, AllocError>
     own.remove("SHA1");
     own.remove("SHA256");
     own.remove("SHA512");
+    // What is left is a stanza still.
+    let _ = own.fields();
     Ok(own)
 }
 
@@ -171,6 +174,7 @@ pub(crate) fn read_package(
     ensures value { IfOk result (λ made. (made.0 ≡ card_of stanza.now) × (made.1 ≡ path_in stanza.now)) }
     ensures good { IfOk result (λ made. fault_of stanza.now ≡ None) }
     ensures one { IfOk result (λ made. segments made.0.file ≡ made.0.file ∷ []) }
+    ensures stanza { IfOk result (λ made. is_stanza made.0.stanza ≡ true) }
     ensures fault { IfErr result (FaultIs (fault_of stanza.now)) }
 {
     let texts = required_texts(stanza)?;
