@@ -4,3 +4,4 @@ pub mod NumberLemmas
 pub mod OwnLemmas
 pub mod TextLemmas
 pub mod PackageLemmas
+pub mod OrderLaws

@@ -1,15 +1,17 @@
 -- The package of a stanza without faults agrees with its own stanza.
-use Rattle.std.proofs.Common.{◌≡◌, ℕ, Bool, true, false, not, ◌&&◌, ◌||◌, cond, List, [], ◌∷◌, map, codes, length, Option, Some, None, is_none, unwrap_or, refl, ap, sym, ◌∙◌, arith, nat_eq, leb}
+use Rattle.std.proofs.Common.{◌≡◌, ℕ, Bool, true, false, not, ◌&&◌, ◌||◌, cond, List, [], ◌∷◌, map, codes, length, Option, Some, None, is_none, unwrap_or, Result, Ok, Err, refl, ap, sym, ◌∙◌, subst, arith, nat_eq, leb}
 use Rattle.std.specs.List.{filter, find}
 use Rattle.std.specs.Char.{to_ascii_lowercase}
 use Rattle.std.specs.Str.{bytes_eq}
 use Rattle.std.specs.Option.{option_map, option_or}
+use Rattle.std.specs.Result.{IfOk}
 use Rattle.std.proofs.lemmas.List.Elements.{filter_agree}
 use Rattle.ap_text.specs.Names.{is_package_name}
 use Rattle.ap_text.specs.Paths.{is_safe_path, segments}
 use Rattle.control_stanza.specs.declared.stanza.Field.{Field}
 use Rattle.control_stanza.specs.Fields.{same_name, value_of, is_stanza}
 use Rattle.deb_version.specs.VersionText.{is_version}
+use Rattle.package_core.specs.declared.package.Package.{Package}
 use Rattle.package_core.specs.declared.fault.Required.{Required}
 use Rattle.package_core.specs.declared.fault.Required.TheVariants.{NameField, VersionField, ArchitectureField, FilenameField, SizeField, Sha256Field}
 use Rattle.package_core.specs.declared.fault.PackageFault.{PackageFault}
@@ -109,3 +111,73 @@ unfolding own_fields
 own_again fields =
     filter-filter (λ (f : Field). not (is_of_file f.name)) (λ (f : Field). not (is_of_file f.name)) fields
     ∙ filter_agree (λ (f : Field). not (is_of_file f.name) && not (is_of_file f.name)) (λ (f : Field). not (is_of_file f.name)) (λ f. twice (not (is_of_file f.name))) fields
+
+-- ---- the four required texts that identity and path rest on
+record Needed (fields : List Field) : Type 0 where
+  name : value_of fields (codes "Package") ≡ Some (text_in fields (codes "Package"))
+  version : value_of fields (codes "Version") ≡ Some (text_in fields (codes "Version"))
+  arch : value_of fields (codes "Architecture") ≡ Some (text_in fields (codes "Architecture"))
+  filename : value_of fields (codes "Filename") ≡ Some (text_in fields (codes "Filename"))
+
+needed : (fields : List Field) → first_missing fields ≡ None → Needed fields
+needed fields h =
+    let a = not_first (is_none (value_of fields (codes "Package"))) NameField _ h in
+    let b = not_first (is_none (value_of fields (codes "Version"))) VersionField _ a.1 in
+    let c = not_first (is_none (value_of fields (codes "Architecture"))) ArchitectureField _ b.1 in
+    let d = not_first (is_none (value_of fields (codes "Filename"))) FilenameField _ c.1 in
+    record { name = is_there _ a.0; version = is_there _ b.0; arch = is_there _ c.0; filename = is_there _ d.0 }
+
+record Identified (fields : List Field) : Type 0 where
+  name : is_other is_package_name (value_of fields (codes "Package")) ≡ false
+  version : is_other is_version (value_of fields (codes "Version")) ≡ false
+  arch : is_other is_architecture (value_of fields (codes "Architecture")) ≡ false
+  source : is_other is_source (value_of fields (codes "Source")) ≡ false
+
+identified : (fields : List Field) → bad_identity fields ≡ None → Identified fields
+unfolding bad_identity
+identified fields h =
+    let a = not_first (is_other is_package_name (value_of fields (codes "Package"))) BadName _ h in
+    let b = not_first (is_other is_version (value_of fields (codes "Version"))) BadVersion _ a.1 in
+    let c = not_first (is_other is_architecture (value_of fields (codes "Architecture"))) BadArchitecture _ b.1 in
+    let d = not_first (is_other is_source (value_of fields (codes "Source"))) BadSource _ c.1 in
+    record { name = a.0; version = b.0; arch = c.0; source = d.0 }
+
+second_true : (a b : Bool) → (a && b) ≡ true → b ≡ true
+second_true true b h = h
+second_true false b h = cc
+
+safe_path : (fields : List Field) → Needed fields → bad_path fields ≡ None → is_safe_path (path_in fields) ≡ true
+unfolding bad_path
+safe_path fields n h =
+    let p = not_first (is_other (λ text. is_file_path (without_dots text)) (value_of fields (codes "Filename"))) BadPath _ h in
+    second_true (leb (length (path_in fields)) 700) (is_safe_path (path_in fields)) (is_good (λ text. is_file_path (without_dots text)) _ _ n.filename p.0)
+
+pub package_is : (fields : List Field) → fault_of fields ≡ None → is_stanza (own_fields fields) ≡ true → segments (last_segment (path_in fields)) ≡ last_segment (path_in fields) ∷ [] → IsPackage (card_of fields)
+unfolding fault_of card_of
+package_is fields h stanza one =
+    let all = both_none (option_map Missing (first_missing fields)) _ h in
+    let rest = both_none (bad_identity fields) _ all.1 in
+    let last = both_none (bad_path fields) (bad_said fields) rest.1 in
+    let n = needed fields (none_missing (first_missing fields) all.0) in
+    let i = identified fields rest.0 in
+    record {
+      stanza = stanza;
+      own = own_again fields;
+      name = own_value fields (codes "Package") name_stays ∙ n.name;
+      name_is = is_good is_package_name _ _ n.name i.name;
+      version = own_value fields (codes "Version") version_stays ∙ n.version;
+      version_is = is_good is_version _ _ n.version i.version;
+      arch = own_value fields (codes "Architecture") architecture_stays ∙ n.arch;
+      arch_is = is_good is_architecture _ _ n.arch i.arch;
+      source = ap (is_other is_source) (own_value fields (codes "Source") source_stays) ∙ i.source;
+      file_is = last_is_safe (path_in fields) (last_segment (path_in fields)) (safe_path fields n last.0) refl one;
+      one_segment = one;
+    }
+
+pub made_is : (fields : List Field) (r : Result (Package × List ℕ) PackageFault) → IfOk r (λ m. (m.0 ≡ card_of fields) × (m.1 ≡ path_in fields)) → IfOk r (λ m. fault_of fields ≡ None) → IfOk r (λ m. segments m.0.file ≡ m.0.file ∷ []) → IfOk r (λ m. is_stanza m.0.stanza ≡ true) → IfOk r (λ m. IsPackage m.0)
+unfolding card_of
+made_is fields (Err e) v g o s = v
+made_is fields (Ok m) (e, path) g o s =
+    let stanza : is_stanza (own_fields fields) ≡ true = ap (λ (p : Package). is_stanza p.stanza) (sym e) ∙ s in
+    let one : segments (last_segment (path_in fields)) ≡ last_segment (path_in fields) ∷ [] = subst (λ (p : Package). segments p.file ≡ p.file ∷ []) e o in
+    subst IsPackage (sym e) (package_is fields g stanza one)

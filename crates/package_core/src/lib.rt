@@ -3,6 +3,7 @@
 
 mod bytes;
 mod fault;
+mod laws;
 mod order;
 mod package;
 mod path;
@@ -12,5 +13,6 @@ mod source;
 mod text;
 
 pub use fault::{CompleteFault, PackageFault, Required};
+pub use laws::package_order_is_total;
 pub use order::{compare_packages, has_same_triple};
 pub use package::Package;
