@@ -1,0 +1,7 @@
+pub mod PathLemmas
+pub mod SourceLemmas
+pub mod NumberLemmas
+pub mod OwnLemmas
+pub mod TextLemmas
+pub mod PackageLemmas
+pub mod OrderLaws
