@@ -4,4 +4,5 @@ pub mod NumberLemmas
 pub mod OwnLemmas
 pub mod TextLemmas
 pub mod PackageLemmas
+pub mod StanzaLaws
 pub mod OrderLaws

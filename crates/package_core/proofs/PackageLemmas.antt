@@ -64,7 +64,7 @@ find-filter p q agree (x ∷ xs) = find_step p q x xs (q x) (p x) refl refl (agr
 abbrev lower : List ℕ → List ℕ
 lower name = map to_ascii_lowercase name
 
-eq_bytes : (xs ys : List ℕ) → bytes_eq xs ys ≡ true → xs ≡ ys
+pub eq_bytes : (xs ys : List ℕ) → bytes_eq xs ys ≡ true → xs ≡ ys
 eq_bytes [] [] h = refl
 eq_bytes [] (y ∷ ys) h = cc
 eq_bytes (x ∷ xs) [] h = cc

@@ -13,6 +13,6 @@ mod source;
 mod text;
 
 pub use fault::{CompleteFault, PackageFault, Required};
-pub use laws::package_order_is_total;
+pub use laws::{equal_packages_are_twins, package_order_is_total, triples_begin_the_order};
 pub use order::{compare_packages, has_same_triple};
 pub use package::Package;
