@@ -1,5 +1,5 @@
 -- Members of one triple stand side by side.
-use Rattle.std.proofs.Common.{◌≡◌, ◌≢◌, ℕ, List, [], ◌∷◌, ◌++◌, Bool, true, false, cond, not, ◌||◌, ◌&&◌, map, length, take, drop, suc, zero, ◌+◌, ◌-◌, ◌<◌, ◌≤◌, add-one, append_assoc, refl, sym, ap, ◌∙◌, subst, arith, Ordering, Less, Equal, Greater, inl, inr, ◌⊎◌}
+use Rattle.std.proofs.Common.{◌≡◌, ℕ, List, [], ◌∷◌, ◌++◌, Bool, true, false, not, ◌||◌, ◌&&◌, take, drop, suc, zero, refl, sym, ap, ◌∙◌, subst, Ordering, Less, Equal, Greater, inl, inr, ◌⊎◌}
 use Rattle.std.specs.Ordering.{is_eq, ordering_then, ordering_reverse}
 use Rattle.std.specs.List.{list_any}
 use Rattle.std.specs.Cmp.{IsTotalOrder}
@@ -10,8 +10,12 @@ use Rattle.package_list.specs.Sorted.{IsBelow, IsAscending, AllLess, StartsAt, h
 use Rattle.package_core.specs.declared.package.Package.{Package}
 use Rattle.package_core.specs.Order.{package_cmp, triple_cmp, body_cmp, same_triple}
 use Rattle.package_core.proofs.OrderLaws.{triple_total, package_total, same_triple-is}
-use Rattle.package_list.specs.Lists.{clash, clashes}
+use Rattle.package_list.specs.Lists.{clashes}
 use Rattle.package_list.proofs.SortedLemmas.{has_behind, turned, ascending_drop, below_more}
+
+-- functions that agree everywhere are one
+pub agreeing : {A B : Type 0} {f g : A → B} → ((x : A) → f x ≡ g x) → f ≡ g
+agreeing h = λ i x. h x i
 
 pub tied : (a : Ordering) → is_eq a ≡ true → a ≡ Equal
 tied Less h = cc
@@ -32,10 +36,12 @@ module _ {X : Type 0} {T : X → X → Ordering} (S : X → X → Ordering) {R :
   between : (x y z : X) → R x y ≡ Less → R y z ≡ Less → T x z ≡ Equal → (T x y ≡ Equal) × (T y z ≡ Equal)
   between x y z h g e =
       elim (first_of x y h) [
-        inl l ↦ elim (first_of y z g) [
-          inl m ↦ absurd (apart (T x z) e (t.trans x y z l m))
-        | inr m ↦ absurd (apart (T x z) e (sym (alike_right t y z x m) ∙ l)) ]
-      | inr l ↦ (l, sym (t.congr x y z l) ∙ e) ]
+        | inl l ↦ elim (first_of y z g) [
+          | inl m ↦ absurd (apart (T x z) e (t.trans x y z l m))
+          | inr m ↦ absurd (apart (T x z) e (sym (alike_right t y z x m) ∙ l))
+        ]
+        | inr l ↦ (l, sym (t.congr x y z l) ∙ e)
+      ]
     where
       apart : (a : Ordering) → a ≡ Equal → a ≡ Less → ⊥
       apart a e h = cc
@@ -52,8 +58,10 @@ module _ {X : Type 0} {T : X → X → Ordering} (S : X → X → Ordering) {R :
     where
       next : is_eq (T x p) ≡ true → is_eq (T y p) ≡ true
       next e = ap is_eq (between x y p a.0.0 h.1.0 (tied (T x p) e)).1
+
       true_or : (b c : Bool) → b ≡ true → true ≡ (b || c)
       true_or b c e = rw e refl
+
       by_test : (b : Bool) → is_eq (T x p) ≡ b → list_any (λ q. is_eq (T q p)) (y ∷ ys) ≡ last_is (λ q. is_eq (T q p)) (y ∷ ys) → (b || list_any (λ q. is_eq (T q p)) (y ∷ ys)) ≡ last_is (λ q. is_eq (T q p)) (y ∷ ys)
       by_test true e more = true_or (is_eq (T y p)) (list_any (λ q. is_eq (T q p)) ys) (next e) ∙ more
       by_test false e more = more
@@ -69,6 +77,7 @@ module _ {X : Type 0} {T : X → X → Ordering} (S : X → X → Ordering) {R :
           by_z : (c : Bool) → is_eq (T z p) ≡ c → list_any (λ q. is_eq (T q p)) zs ≡ false → (c || list_any (λ q. is_eq (T q p)) zs) ≡ false
           by_z true g more = absurd (false≢true (sym e ∙ ap is_eq (tied_back t p x (between p x z h b.0 (tied_back t z p (tied (T z p) g))).0)))
           by_z false g more = more
+
       by_test : (c : Bool) → is_eq (T x p) ≡ c → (c || list_any (λ q. is_eq (T q p)) xs) ≡ c
       by_test true e = refl
       by_test false e = none xs a.0 e
@@ -179,34 +188,32 @@ take_more_at (suc n) (y ∷ ys) x rest h = ap (λ l. y ∷ l) (take_more_at n ys
 pub last_at : {X : Type 0} (p : X → Bool) (n i : ℕ) (xs : List X) (x : X) (rest : List X) → i ≡ suc n → drop n xs ≡ x ∷ rest → last_is p (take i xs) ≡ p x
 last_at p n i xs x rest e h = ap (λ k. last_is p (take k xs)) e ∙ ap (last_is p) (take_more_at n xs x rest h) ∙ last_is_push p (take n xs) x
 
--- a clash is one triple without equality
-pub clash-is : (p : Package) → (λ q. clash q p) ≡ (λ q. differs body_cmp triple_total package_total (λ x y. refl) q p)
+triple_begins : (x y : Package) → package_cmp x y ≡ ordering_then (triple_cmp x y) (body_cmp x y)
 unfolding package_cmp
-clash-is p = funext (λ q. ap (λ b. b && not (is_eq (package_cmp q p))) (same_triple-is q p))
+triple_begins x y = refl
 
-pub triple-is : (p : Package) → (λ q. same_triple q p) ≡ (λ q. is_eq (triple_cmp q p))
-triple-is p = funext (λ q. same_triple-is q p)
+-- a clash is one triple without equality
+clash-is : (xs : List Package) (p : Package) → clashes xs p ≡ list_any (λ q. differs body_cmp triple_total package_total triple_begins q p) xs
+clash-is xs p = ap (λ f. list_any f xs) (agreeing (λ q. ap (λ b. b && not (is_eq (package_cmp q p))) (same_triple-is q p)))
+
+triple_last : (xs : List Package) (p : Package) → last_is (λ q. same_triple q p) xs ≡ last_is (λ q. is_eq (triple_cmp q p)) xs
+triple_last xs p = ap (λ f. last_is f xs) (agreeing (λ q. same_triple-is q p))
+
+triple_first : (xs : List Package) (p : Package) → first_is (λ q. same_triple q p) xs ≡ first_is (λ q. is_eq (triple_cmp q p)) xs
+triple_first xs p = ap (λ f. first_is f xs) (agreeing (λ q. same_triple-is q p))
 
 pub clash_beside : (xs : List Package) (i j : ℕ) (p : Package) → IsAscending package_cmp xs → AllLess package_cmp (take i xs) p → IsBelow package_cmp p (drop j xs)
     → clashes (drop i xs) p ≡ clashes (drop j xs) p
     → clashes xs p ≡ (last_is (λ q. same_triple q p) (take i xs) || first_is (λ q. same_triple q p) (drop j xs))
-unfolding package_cmp
 clash_beside xs i j p a before above same =
-    ap (λ f. list_any f xs) (clash-is p)
-    ∙ differs_beside body_cmp triple_total package_total (λ x y. refl) xs i j p a before above (sym (ap (λ f. list_any f (drop i xs)) (clash-is p)) ∙ same ∙ ap (λ f. list_any f (drop j xs)) (clash-is p))
-    ∙ (λ k. last_is (sym (triple-is p) k) (take i xs) || first_is (sym (triple-is p) k) (drop j xs))
-
-pub clash_equal : (x p : Package) (xs : List Package) → is_eq (package_cmp x p) ≡ true → clashes (x ∷ xs) p ≡ clashes xs p
-unfolding package_cmp
-clash_equal x p xs h =
-    ap (λ f. list_any f (x ∷ xs)) (clash-is p) ∙ differs_equal body_cmp triple_total package_total (λ x y. refl) x p xs h ∙ sym (ap (λ f. list_any f xs) (clash-is p))
+    clash-is xs p
+    ∙ differs_beside body_cmp triple_total package_total triple_begins xs i j p a before above (sym (clash-is (drop i xs) p) ∙ same ∙ clash-is (drop j xs) p)
+    ∙ (λ k. sym (triple_last (take i xs) p) k || sym (triple_first (drop j xs) p) k)
 
 pub behind_equal : (x p : Package) (xs rest : List Package) → xs ≡ x ∷ rest → IsAscending package_cmp xs → is_eq (package_cmp x p) ≡ true → IsBelow package_cmp p rest
-unfolding package_cmp
-behind_equal x p xs rest e a h = above_equal body_cmp triple_total package_total (λ x y. refl) x p rest (subst (IsAscending package_cmp) e a).0 h
+behind_equal x p xs rest e a h = above_equal body_cmp triple_total package_total triple_begins x p rest (subst (IsAscending package_cmp) e a).0 h
 
 pub behind_other : (x p : Package) (xs rest : List Package) → xs ≡ x ∷ rest → IsAscending package_cmp xs → StartsAt package_cmp xs p → is_eq (package_cmp x p) ≡ false → IsBelow package_cmp p xs
-unfolding package_cmp
 behind_other x p xs rest e a s h =
     subst (IsBelow package_cmp p) (sym e)
-    (above_other body_cmp triple_total package_total (λ x y. refl) x p rest (subst (IsAscending package_cmp) e a).0 (subst (λ (l : List Package). StartsAt package_cmp l p) e s) h)
+    (above_other body_cmp triple_total package_total triple_begins x p rest (subst (IsAscending package_cmp) e a).0 (subst (λ (l : List Package). StartsAt package_cmp l p) e s) h)

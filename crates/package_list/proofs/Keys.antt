@@ -1,8 +1,7 @@
 -- Members of one name and architecture stand side by side.
-use Rattle.std.proofs.Common.{◌≡◌, ℕ, List, [], ◌∷◌, ◌++◌, Bool, true, false, cond, not, ◌&&◌, ◌||◌, map, append_assoc, append-nil, refl, sym, ap, ◌∙◌, subst, Ordering, Less, Equal, Greater, inl, inr}
+use Rattle.std.proofs.Common.{◌≡◌, List, [], ◌∷◌, ◌++◌, Bool, true, false, cond, not, ◌&&◌, ◌||◌, append_assoc, append-nil, refl, sym, ap, ◌∙◌, subst, Ordering, Less, Equal, Greater, inl, inr}
 use Rattle.std.specs.Ordering.{is_eq, is_lt, ordering_then, ordering_reverse}
 use Rattle.std.specs.List.{filter, list_any}
-use Rattle.std.specs.Str.{bytes_eq}
 use Rattle.std.specs.Cmp.{IsTotalOrder}
 use Rattle.std.proofs.lemmas.Cmp.{alike_right, tied_itself, nat_list_cmp_total, on_total, then_total}
 use Rattle.std.proofs.lemmas.Map.Text.{is_eq-slice_cmp}
@@ -13,7 +12,7 @@ use Rattle.package_core.proofs.OrderLaws.{package_total}
 use Rattle.package_list.specs.Sorted.{IsBelow, IsAscending, first_is}
 use Rattle.package_list.specs.Order.{key_cmp}
 use Rattle.package_list.specs.Lists.{same_key, has_key, has_greater, greatest}
-use Rattle.package_list.proofs.Beside.{first_of, first_behind}
+use Rattle.package_list.proofs.Beside.{agreeing, first_of, first_behind}
 
 module _ {X : Type 0} {K : X → X → Ordering} (S : X → X → Ordering) {R : X → X → Ordering} (k : IsTotalOrder K) (r : IsTotalOrder R) (both : (x y : X) → R x y ≡ ordering_then (K x y) (S x y)) where
   -- a key that is less than that of a member is less than all that follow
@@ -62,7 +61,7 @@ regroup Equal Greater c d = refl
 regroup Equal Equal c d = refl
 
 key_begins : (a b : Package) → package_cmp a b ≡ ordering_then (key_cmp a b) (key_rest a b)
-unfolding package_cmp triple_cmp key_cmp
+unfolding package_cmp triple_cmp key_cmp key_rest version_cmp
 key_begins a b = regroup (text_cmp a.name b.name) (text_cmp a.arch b.arch) (ordering_then (version_cmp a.version b.version) (text_cmp a.version b.version)) (body_cmp a b)
 
 eq_then : (a b : Ordering) → is_eq (ordering_then a b) ≡ (is_eq a && is_eq b)
@@ -76,10 +75,10 @@ same_key-is a b =
     sym (eq_then (text_cmp a.name b.name) (text_cmp a.arch b.arch) ∙ (λ i. is_eq-slice_cmp a.name b.name i && is_eq-slice_cmp a.arch b.arch i))
 
 has_key-is : (xs : List Package) (p : Package) → has_key xs p ≡ list_any (λ q. is_eq (key_cmp q p)) xs
-has_key-is xs p = ap (λ f. list_any f xs) (funext (λ q. same_key-is q p))
+has_key-is xs p = ap (λ f. list_any f xs) (agreeing (λ q. same_key-is q p))
 
 has_greater-is : (xs : List Package) (p : Package) → has_greater xs p ≡ list_any (λ q. is_eq (key_cmp q p) && is_lt (package_cmp p q)) xs
-has_greater-is xs p = ap (λ f. list_any f xs) (funext (λ q. ap (λ b. b && is_lt (package_cmp p q)) (same_key-is q p)))
+has_greater-is xs p = ap (λ f. list_any f xs) (agreeing (λ q. ap (λ b. b && is_lt (package_cmp p q)) (same_key-is q p)))
 
 -- ---- the members whose key another list hasn't
 abbrev pub unkeyed : List Package → List Package → List Package
@@ -105,12 +104,8 @@ key_skips x y ys h = ap (λ b. b || has_key ys x) (same_key-is y x ∙ ap is_eq 
 unkeyed_skips : (y : Package) (ys xs : List Package) → ((x : Package) (zs : List Package) → xs ≡ x ∷ zs → key_cmp y x ≡ Less) → IsAscending package_cmp xs → unkeyed (y ∷ ys) xs ≡ unkeyed ys xs
 unkeyed_skips y ys [] h a = refl
 unkeyed_skips y ys (x ∷ xs) h a =
+    let more : unkeyed (y ∷ ys) xs ≡ unkeyed ys xs = unkeyed_skips y ys xs (λ x' zs e. key_less key_rest key_total package_total key_begins y x x' (h x xs refl) (subst (IsBelow package_cmp x) e a.0).0) a.1 in
     (λ i. cond (not (key_skips x y ys (h x xs refl) i)) (x ∷ more i) (more i))
-  where
-    next : (x' : Package) (zs : List Package) → xs ≡ x' ∷ zs → key_cmp y x' ≡ Less
-    next x' zs e = key_less key_rest key_total package_total key_begins y x x' (h x xs refl) (subst (IsBelow package_cmp x) e a.0).0
-    more : unkeyed (y ∷ ys) xs ≡ unkeyed ys xs
-    more = unkeyed_skips y ys xs next a.1
 
 pub kept_less : (kept left right xs ys : List Package) (x y : Package) (kept' left' right' : List Package) → left ≡ x ∷ left' → right ≡ y ∷ right' → kept' ≡ kept ++ x ∷ [] → key_cmp x y ≡ Less → Kept kept left right xs ys → Kept kept' left' right xs ys
 kept_less kept left right xs ys x y kept' left' right' e f g h j =

@@ -1,5 +1,5 @@
 -- A list without one member.
-use Rattle.std.proofs.Common.{◌≡◌, ℕ, suc, zero, ◌<◌, List, [], ◌∷◌, ◌++◌, length, take, drop, map, Bool, true, false, cond, not, ◌||◌, refl, sym, ap, ◌∙◌, arith, Ordering, Less, Equal, Greater, subst, inl, inr}
+use Rattle.std.proofs.Common.{◌≡◌, ℕ, suc, zero, ◌<◌, List, [], ◌∷◌, ◌++◌, length, take, drop, map, Bool, true, false, cond, not, ◌||◌, refl, sym, ap, ◌∙◌, Ordering, Less, Equal, Greater, subst, inl, inr}
 use Rattle.std.specs.Ordering.{is_eq, ordering_reverse}
 use Rattle.std.specs.List.{filter, remove}
 use Rattle.std.specs.Cmp.{IsTotalOrder}

@@ -1,13 +1,13 @@
 -- Sorted lists, one element more.
-use Rattle.std.proofs.Common.{◌≡◌, ◌≢◌, ℕ, suc, zero, ◌+◌, ◌<◌, ◌≤◌, List, [], ◌∷◌, ◌++◌, length, get_or, take, drop, map, Bool, true, false, cond, Option, Some, None, refl, sym, ap, ◌∙◌, arith, Ordering, Less, Equal, Greater, append_assoc, append-nil, subst, ◌||◌, Result, Ok, Err, inl, inr}
+use Rattle.std.proofs.Common.{◌≡◌, ℕ, suc, zero, ◌+◌, ◌<◌, ◌≤◌, List, [], ◌∷◌, ◌++◌, length, get_or, take, drop, map, true, false, refl, sym, ap, ◌∙◌, arith, Ordering, Less, Equal, Greater, append_assoc, append-nil, subst, ◌||◌, Result, Ok, Err, inl, inr}
 use Rattle.std.specs.Ordering.{is_eq, is_lt, ordering_reverse}
 use Rattle.std.specs.List.{insert}
 use Rattle.std.specs.Result.{OnOk, OnErr}
 use Rattle.std.specs.Cmp.{IsTotalOrder}
-use Rattle.std.proofs.lemmas.Cmp.{tied_itself, tied_back, alike_right}
+use Rattle.std.proofs.lemmas.Cmp.{alike_right}
 use Rattle.std.proofs.lemmas.List.{take-append-drop, get_or_default, map-append, take-map, drop-map, length-map, get_or-map, drop_more}
 use Rattle.std.proofs.lemmas.Bool.{cases_lt, false≢true, true≢false}
-use Rattle.package_list.specs.Sorted.{IsBelow, IsAscending, placed, put, union, AllLess, StartsAt, has, equal_of}
+use Rattle.package_list.specs.Sorted.{IsBelow, IsAscending, placed, put, union, AllLess, StartsAt, has}
 
 module _ {X : Type 0} {R : X → X → Ordering} (o : IsTotalOrder R) where
   -- y goes behind all that is less

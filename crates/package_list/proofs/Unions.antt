@@ -1,11 +1,10 @@
 -- What a union has, and that this says which list it is.
-use Rattle.std.proofs.Common.{◌≡◌, ◌≢◌, ℕ, List, [], ◌∷◌, ◌++◌, Bool, true, false, cond, not, ◌||◌, Option, Some, None, refl, sym, ap, ◌∙◌, subst, arith, Ordering, Less, Equal, Greater, inl, inr, ◌⊎◌}
+use Rattle.std.proofs.Common.{◌≡◌, List, [], ◌∷◌, Bool, true, false, cond, Option, Some, None, refl, sym, ap, ◌∙◌, Ordering, Less, Equal, Greater}
 use Rattle.std.specs.Ordering.{is_eq, ordering_reverse}
 use Rattle.std.specs.List.{filter}
 use Rattle.std.specs.Cmp.{IsTotalOrder}
-use Rattle.std.proofs.lemmas.Cmp.{tied_itself, tied_back, alike_right}
-use Rattle.std.proofs.lemmas.Bool.{true≢false, false≢true}
-use Rattle.package_list.specs.Sorted.{IsBelow, IsAscending, placed, put, union, has, equal_of, or_else, if_equal}
+use Rattle.std.proofs.lemmas.Bool.{false≢true}
+use Rattle.package_list.specs.Sorted.{IsBelow, IsAscending, placed, put, union, equal_of, or_else, if_equal}
 use Rattle.package_list.proofs.SortedLemmas.{put_ascending, below_more, turned}
 
 module _ {X : Type 0} {R : X → X → Ordering} (o : IsTotalOrder R) where
@@ -45,6 +44,7 @@ module _ {X : Type 0} {R : X → X → Ordering} (o : IsTotalOrder R) where
       found true c h e = refl
       found false true h e = absurd (false≢true h)
       found false false h e = sym (or_else_none e)
+
       first : (c : Bool) → is_eq (R y q) ≡ c → R x y ≡ Greater → cond c (Some y) (equal_of R (x ∷ xs) q) ≡ or_else R (equal_of R (x ∷ xs) q) (cond c (Some y) None)
       first true h g = ap (λ e. or_else R e (Some y)) (sym (none_behind x q xs (below_q h g) a.0))
         where
@@ -52,9 +52,11 @@ module _ {X : Type 0} {R : X → X → Ordering} (o : IsTotalOrder R) where
           is_equal Less h = cc
           is_equal Equal h = refl
           is_equal Greater h = cc
+
           below_q : is_eq (R y q) ≡ true → R x y ≡ Greater → R q x ≡ Less
           below_q h g = sym (o.congr y q x (is_equal (R y q) h)) ∙ turned o x y g
       first false h g = sym (or_else_none (equal_of R (x ∷ xs) q))
+
       by_order : (r : Ordering) → R x y ≡ r → equal_of R (put R xs y) q ≡ or_else R (equal_of R xs q) (if_equal R y q) → equal_of R (placed R r x y xs (put R xs y)) q ≡ or_else R (equal_of R (x ∷ xs) q) (if_equal R y q)
       by_order Less h more = ap (cond (is_eq (R x q)) (Some x)) more ∙ by_cond (is_eq (R x q)) x (equal_of R xs q) (if_equal R y q)
       by_order Equal h more = found (is_eq (R x q)) (is_eq (R y q)) (ap is_eq (o.congr x y q h)) (equal_of R xs q)

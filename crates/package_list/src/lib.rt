@@ -3,9 +3,11 @@
 
 mod fault;
 mod join;
+mod laws;
 mod list;
 mod place;
 mod reduce;
 
 pub use fault::ListFault;
+pub use laws::unions_have_what_either_has;
 pub use list::PackageList;

@@ -171,11 +171,7 @@ impl PackageList {
     }
 }
 
-fn insert_into(
-    alloc: Global,
-    items: &mut Vec<Rc<Package>>,
-    new: Package,
-) -> Result<bool, ListFault>
+fn insert_into(alloc: Global, items: &mut Vec<Rc<Package>>, new: Package) -> Result<bool, ListFault>
     requires { IsAscending package_cmp (map rc_value items.old.items) }
     ensures answer { Answers result (insert_answer (map rc_value items.old.items) new) }
     ensures ok { OnOk result (map rc_value items.new.items ≡ put package_cmp (map rc_value items.old.items) new) }

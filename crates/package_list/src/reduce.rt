@@ -61,10 +61,7 @@ pub(crate) fn without_keys(
 }
 
 /// The members than which none of the same name and architecture is greater: the last of each such group. Shared.
-pub(crate) fn greatest_of(
-    alloc: Global,
-    xs: &[Rc<Package>],
-) -> Result<Vec<Rc<Package>>, AllocError>
+pub(crate) fn greatest_of(alloc: Global, xs: &[Rc<Package>]) -> Result<Vec<Rc<Package>>, AllocError>
     requires { IsAscending package_cmp (map rc_value xs.now) }
     ensures { IfOk result (λ v. map rc_value v.items ≡ greatest (map rc_value xs.now)) }
 {

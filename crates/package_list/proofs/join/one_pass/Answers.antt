@@ -1,6 +1,5 @@
-use Rattle.std.proofs.Common.{sym, ap, ◌∙◌, map, refl}
+use Rattle.std.proofs.Common.{ap, map}
 use Rattle.std.specs.Rc.{rc_value}
-use Rattle.package_core.specs.Order.{package_cmp}
 use Rattle.package_core.proofs.OrderLaws.{package_total}
 use Rattle.package_list.proofs.SortedLemmas.{joined_none, joined_less, joined_equal, joined_greater, joined_ends}
 use Rattle.package_list.proofs.join.one_pass.Goals as goal

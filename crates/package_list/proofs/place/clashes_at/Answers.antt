@@ -1,4 +1,4 @@
-use Rattle.std.proofs.Common.{sym, ap, ◌∙◌, ◌||◌, map, drop, true, false, Bool, ◌≡◌, refl}
+use Rattle.std.proofs.Common.{sym, ap, ◌∙◌, ◌||◌, map, true, false, Bool, ◌≡◌}
 use Rattle.std.specs.Rc.{rc_value}
 use Rattle.package_list.proofs.Beside.{clash_beside}
 use Rattle.package_list.proofs.place.clashes_at.Goals as goal

@@ -1,4 +1,4 @@
-use Rattle.std.proofs.Common.{sym, ap, ◌∙◌, map, arith, length, ◌≡◌, ◌<◌}
+use Rattle.std.proofs.Common.{sym, ◌∙◌, map, arith}
 use Rattle.std.specs.Rc.{rc_value}
 use Rattle.std.proofs.lemmas.List.{length-map}
 use Rattle.package_core.proofs.OrderLaws.{package_total}

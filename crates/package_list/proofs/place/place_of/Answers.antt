@@ -1,8 +1,6 @@
-use Rattle.std.proofs.Common.{sym, ap, ◌∙◌, ◌≡◌, ◌<◌, ◌≤◌, ◌+◌, ◌-◌, ◌/◌, length, get_or, map, arith, ℕ, Less}
-use Rattle.std.specs.Ordering.{is_lt}
+use Rattle.std.proofs.Common.{sym, ap, ◌∙◌, ◌+◌, ◌-◌, ◌/◌, map, arith}
 use Rattle.std.specs.Rc.{rc_value}
 use Rattle.std.proofs.lemmas.List.{get_or-map, length-map}
-use Rattle.package_core.specs.Order.{package_cmp}
 use Rattle.package_core.proofs.OrderLaws.{package_total}
 use Rattle.package_list.proofs.SortedLemmas.{low_step, high_step, all_less_before, starts_behind, less_from, not_less_from}
 use Rattle.package_list.proofs.place.place_of.Goals as goal
