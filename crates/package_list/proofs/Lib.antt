@@ -1,0 +1,5 @@
+pub mod SortedLemmas
+pub mod Unions
+pub mod Beside
+pub mod Removal
+pub mod Keys

@@ -1,0 +1,40 @@
+-- What the calls of a list answer.
+use Rattle.std.specs.Prelude.{◌≡◌, ℕ, List, Bool, true, false, Result, Ok, Err, Option, Some, None, length, nat_lt, if◌then◌else◌, find}
+use Rattle.package_core.specs.Card.{Card, triple}
+use Rattle.package_list.specs.declared.fault.ListFault.{ListFault}
+use Rattle.package_list.specs.declared.fault.ListFault.TheVariants.{Conflict, Full, OutOfMemory}
+use Rattle.package_list.specs.Lists.{has_member, clashes, union}
+
+abbrev pub FaultIs : {T : Type 0} → ListFault → Result T ListFault → Type 0
+FaultIs OutOfMemory wanted = Unit {0}
+FaultIs (Conflict t) wanted = wanted ≡ Err (Conflict t)
+FaultIs Full wanted = wanted ≡ Err Full
+
+-- the call answers so, unless memory runs out
+abbrev pub Answers : {T : Type 0} → Result T ListFault → Result T ListFault → Type 0
+Answers (Ok x) wanted = wanted ≡ Ok x
+Answers (Err e) wanted = FaultIs e wanted
+
+-- False where an equal is there; else the conflict with a member, and then the limit of 200,000 members, is told.
+abbrev pub insert_answer : List Card → Card → Result Bool ListFault
+insert_answer xs p =
+    if has_member xs p then Ok false
+    else if clashes xs p then Err (Conflict (triple p))
+    else if nat_lt (length xs) 200000 then Ok true
+    else Err Full
+
+-- at most so many members
+abbrev pub size_answer : ℕ → List Card → Result (Unit {0}) ListFault
+size_answer most xs = if nat_lt most (length xs) then Err Full else Ok tt
+
+-- the first of the list that clashes within the union is told; else the size decides
+abbrev pub conflict_or : Option Card → Result (Unit {0}) ListFault → Result (Unit {0}) ListFault
+conflict_or None answer = answer
+conflict_or (Some p) answer = Err (Conflict (triple p))
+
+-- the first member of the later list that clashes within the union
+abbrev pub first_clash : List Card → List Card → Option Card
+first_clash all later = find (clashes all) later
+
+abbrev pub append_answer : List Card → List Card → Result (Unit {0}) ListFault
+append_answer xs ys = conflict_or (first_clash (union xs ys) ys) (size_answer 200000 (union xs ys))

@@ -1,0 +1,119 @@
+//! Two lists joined in one pass over both.
+ghost use Rattle.std.specs.Prelude.{◌≡◌, IfOk, OnOk, [], MatchOption, Some, None, map, ◌++◌, ◌∷◌};
+ghost use Rattle.std.specs.Rc.{rc_value};
+ghost use Rattle.package_core.specs.Order.{package_cmp};
+ghost use Rattle.package_list.specs.Sorted.{IsAscending};
+ghost use Rattle.package_list.specs.Lists.{union};
+ghost use Rattle.package_list.specs.Answers.{first_clash};
+
+use crate::place::{clashes_at, place_of};
+use package_core::{Package, compare_packages};
+use std::alloc::{AllocError, Global};
+use std::cmp::Ordering;
+use std::rc::Rc;
+
+/// All of both lists, shared; of two equals the one of the first list.
+pub(crate) fn union_of(
+    alloc: Global,
+    xs: &[Rc<Package>],
+    ys: &[Rc<Package>],
+) -> Result<Vec<Rc<Package>>, AllocError>
+    requires first { IsAscending package_cmp (map rc_value xs.now) }
+    requires second { IsAscending package_cmp (map rc_value ys.now) }
+    ensures members { IfOk result (λ v. map rc_value v.items ≡ union (map rc_value xs.now) (map rc_value ys.now)) }
+    ensures ascending { IfOk result (λ v. IsAscending package_cmp (map rc_value v.items)) }
+{
+    let all = one_pass(alloc, xs, ys)?;
+    Ok(all)
+}
+
+/// The union by one cursor in each list. The first list's order isn't needed for what it gives.
+pub(crate) fn one_pass(
+    alloc: Global,
+    xs: &[Rc<Package>],
+    ys: &[Rc<Package>],
+) -> Result<Vec<Rc<Package>>, AllocError>
+    requires { IsAscending package_cmp (map rc_value ys.now) }
+    ensures { IfOk result (λ v. map rc_value v.items ≡ union (map rc_value xs.now) (map rc_value ys.now)) }
+{
+    let mut all = Vec::new(alloc);
+    let mut left = xs;
+    let mut right = ys;
+    while let Some((y, ys)) = first_and_rest(right) {
+        match first_and_rest(left) {
+            None => {
+                push_copy(&mut all, y)?;
+                right = ys;
+            }
+            Some((x, xs)) => match compare_packages(x.as_ref(), y.as_ref()) {
+                Ordering::Less => {
+                    push_copy(&mut all, x)?;
+                    left = xs;
+                }
+                Ordering::Equal => {
+                    right = ys;
+                }
+                Ordering::Greater => {
+                    push_copy(&mut all, y)?;
+                    right = ys;
+                }
+            },
+        }
+    }
+    append_items(&mut all, left)?;
+    Ok(all)
+}
+
+/// The first member of the later list that clashes with a member of the union.
+pub(crate) fn clash_in<'a>(all: &[Rc<Package>], later: &'a [Rc<Package>]) -> Option<&'a Package>
+    requires { IsAscending package_cmp (map rc_value all.now) }
+    ensures { MatchOption result (first_clash (map rc_value all.now) (map rc_value later.now) ≡ None) (λ p. first_clash (map rc_value all.now) (map rc_value later.now) ≡ Some p.now) }
+{
+    for one in later {
+        let place = place_of(all, one.as_ref());
+        if clashes_at(all, place, one.as_ref()) {
+            return Some(one.as_ref());
+        }
+    }
+    None
+}
+
+/// The same members, shared.
+pub(crate) fn copy_items(
+    alloc: Global,
+    items: &[Rc<Package>],
+) -> Result<Vec<Rc<Package>>, AllocError>
+    ensures { IfOk result (λ v. map rc_value v.items ≡ map rc_value items.now) }
+{
+    let mut copies = Vec::new(alloc);
+    for item in items {
+        copies.push(item.clone()?)?;
+    }
+    Ok(copies)
+}
+
+pub(crate) fn push_copy(all: &mut Vec<Rc<Package>>, item: &Rc<Package>) -> Result<(), AllocError>
+    ensures { OnOk result (map rc_value all.new.items ≡ map rc_value all.old.items ++ item.now.value ∷ []) }
+{
+    all.push(item.clone()?)?;
+    Ok(())
+}
+
+pub(crate) fn append_items(
+    all: &mut Vec<Rc<Package>>,
+    items: &[Rc<Package>],
+) -> Result<(), AllocError>
+    ensures { OnOk result (map rc_value all.new.items ≡ map rc_value all.old.items ++ map rc_value items.now) }
+{
+    for item in items {
+        push_copy(all, item)?;
+    }
+    Ok(())
+}
+
+/// The first element and those behind it.
+pub(crate) fn first_and_rest<T>(xs: &[T]) -> Option<(&T, &[T])>
+    ensures { MatchOption result (xs.now ≡ []) (λ p. xs.now ≡ p.0.now ∷ p.1.now) }
+{
+    xs.split_first()
+}

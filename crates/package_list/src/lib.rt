@@ -1,0 +1,13 @@
+//! Lists of packages in their order, without equals, and how two of them are joined.
+#![tactic(auto)]
+
+mod fault;
+mod join;
+mod laws;
+mod list;
+mod place;
+mod reduce;
+
+pub use fault::ListFault;
+pub use laws::unions_have_what_either_has;
+pub use list::PackageList;

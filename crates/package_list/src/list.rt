@@ -1,0 +1,208 @@
+//! Sorted lists of packages.
+ghost use Rattle.std.specs.Prelude.{◌≡◌, ◌≤◌, IfOk, OnOk, OnErr, length, slice_get, [], ◌∷◌, MatchOption, Some, map};
+ghost use Rattle.std.specs.Rc.{rc_value};
+ghost use Rattle.package_core.specs.Order.{package_cmp};
+ghost use Rattle.package_list.specs.Sorted.{put, IsAscending};
+ghost use Rattle.package_list.specs.Lists.{union, without, has_member, merged, latest};
+ghost use Rattle.package_list.specs.Answers.{Answers, insert_answer, append_answer, size_answer};
+
+use crate::fault::ListFault;
+use crate::join::{clash_in, copy_items, union_of};
+use crate::place::{clashes_at, found_at, is_at, place_of};
+use crate::reduce::{latest_of, merge_of};
+use package_core::Package;
+use std::alloc::{AllocError, Global};
+use std::marker::Model;
+use std::rc::Rc;
+
+/// The members that a list may have.
+const MOST: usize = 200_000;
+
+/// The members that the list of all known packages may have.
+const MOST_KNOWN: usize = 400_000;
+
+/// A list of packages, seen as its members in the order of packages, of which no two are equal. Packages are shared, so
+/// a copy of a list copies no stanza.
+#[derive(Drop)]
+pub struct PackageList {
+    items: Vec<Rc<Package>>,
+}
+
+impl Model for PackageList {
+    ghost use Rattle.std.specs.Prelude.{List, map};
+    ghost use Rattle.std.specs.Rc.{rc_value};
+    ghost use Rattle.package_core.specs.declared.package.Package.{Package};
+
+    ghost Value = { List Package };
+
+    ghost use Rattle.package_core.specs.Order.{package_cmp};
+    ghost use Rattle.package_list.specs.Sorted.{IsAscending};
+
+    ghost view = { λ a. map rc_value a.items.items };
+
+    ghost invariant = { λ a. IsAscending package_cmp (map rc_value a.items.items) };
+}
+
+impl PackageList {
+    /// The empty list.
+    pub fn new(alloc: Global) -> PackageList
+        ensures { result ≡ [] }
+    {
+        PackageList {
+            items: Vec::new(alloc),
+        }
+    }
+
+    /// The number of members.
+    pub fn len(&self) -> usize
+        ensures { result ≡ length self.now }
+    {
+        self.items.len()
+    }
+
+    /// The member at a place counted from 0; `None` exactly where the list ends before it.
+    pub fn get(&self, i: usize) -> Option<&Package>
+        ensures { MatchOption result (length self.now ≤ i) (λ p. slice_get self.now i ≡ Some p.now) }
+    {
+        match self.items.get(i) {
+            Some(rc) => Some(rc.as_ref()),
+            None => None,
+        }
+    }
+
+    /// The same list once more, with its packages shared. Fails only for want of memory.
+    pub fn copy(&self, alloc: Global) -> Result<PackageList, AllocError>
+        ensures { IfOk result (λ made. made ≡ self.now) }
+    {
+        Ok(PackageList {
+            items: copy_items(alloc, &self.items)?,
+        })
+    }
+
+    /// Whether an equal of the package is a member. It takes no memory.
+    pub fn has(&self, wanted: &Package) -> bool
+        ensures { result ≡ has_member self.now wanted.now }
+    {
+        found_at(&self.items, wanted).is_some()
+    }
+
+    /// Puts a package at its place. False where an equal is there, which stays. `Conflict` exactly where none is and a
+    /// member has the package's triple; then `Full` exactly where the list has 200,000 members or more. After a fault the
+    /// list is as it was.
+    pub fn insert(&mut self, alloc: Global, new: Package) -> Result<bool, ListFault>
+        ensures answer { Answers result (insert_answer self.old new) }
+        ensures ok { OnOk result (self.new ≡ put package_cmp self.old new) }
+        ensures err { OnErr result (self.new ≡ self.old) }
+    {
+        insert_into(alloc, &mut self.items, new)
+    }
+
+    /// Takes out the equal of the package, and tells whether there was one. It takes no memory.
+    pub fn remove(&mut self, gone: &Package) -> bool
+        ensures found { result ≡ has_member self.old gone.now }
+        ensures list { self.new ≡ without self.old (gone.now ∷ []) }
+    {
+        remove_from(&mut self.items, gone)
+    }
+
+    /// Takes all of a later list; of two equals the own member stays. `Conflict` for the first member of `later` that has
+    /// the triple of another member of the union; else `Full` exactly where the union has more than 200,000 members. After
+    /// a fault the list is as it was.
+    pub fn append_from(&mut self, alloc: Global, later: &PackageList) -> Result<(), ListFault>
+        ensures answer { Answers result (append_answer self.old later.now) }
+        ensures ok { OnOk result (self.new ≡ union self.old later.now) }
+        ensures err { OnErr result (self.new ≡ self.old) }
+    {
+        let all = union_of(alloc, &self.items, &later.items)?;
+        if let Some(clash) = clash_in(&all, &later.items) {
+            return Err(ListFault::Conflict(clash.triple(alloc)?));
+        }
+        if all.len() > MOST {
+            return Err(ListFault::Full);
+        }
+        self.items = all;
+        Ok(())
+    }
+
+    /// Takes all of another list, members of one triple too; of two equals the own member stays. `Full` exactly where the
+    /// union has more than 400,000 members; the list then is as it was.
+    pub fn join_known(&mut self, alloc: Global, other: &PackageList) -> Result<(), ListFault>
+        ensures answer { Answers result (size_answer 400000 (union self.old other.now)) }
+        ensures ok { OnOk result (self.new ≡ union self.old other.now) }
+        ensures err { OnErr result (self.new ≡ self.old) }
+    {
+        let all = union_of(alloc, &self.items, &other.items)?;
+        if all.len() > MOST_KNOWN {
+            return Err(ListFault::Full);
+        }
+        self.items = all;
+        Ok(())
+    }
+
+    /// Drops each own member whose name and architecture the later list has, and takes all of that list. `Full` exactly
+    /// where that makes more than 200,000 members; the list then is as it was.
+    pub fn merge_from(&mut self, alloc: Global, later: &PackageList) -> Result<(), ListFault>
+        ensures answer { Answers result (size_answer 200000 (merged self.old later.now)) }
+        ensures ok { OnOk result (self.new ≡ merged self.old later.now) }
+        ensures err { OnErr result (self.new ≡ self.old) }
+    {
+        let all = merge_of(alloc, &self.items, &later.items)?;
+        if all.len() > MOST {
+            return Err(ListFault::Full);
+        }
+        self.items = all;
+        Ok(())
+    }
+
+    /// Takes all of a later list, and keeps of each name and architecture the greatest version alone, of equal ones the
+    /// greater in the order of packages (Debian Policy 5.6.12). `Full` exactly where that makes more than 200,000 members;
+    /// the list then is as it was.
+    pub fn latest_from(&mut self, alloc: Global, later: &PackageList) -> Result<(), ListFault>
+        ensures answer { Answers result (size_answer 200000 (latest self.old later.now)) }
+        ensures ok { OnOk result (self.new ≡ latest self.old later.now) }
+        ensures err { OnErr result (self.new ≡ self.old) }
+    {
+        let all = latest_of(alloc, &self.items, &later.items)?;
+        if all.len() > MOST {
+            return Err(ListFault::Full);
+        }
+        self.items = all;
+        Ok(())
+    }
+}
+
+fn insert_into(alloc: Global, items: &mut Vec<Rc<Package>>, new: Package) -> Result<bool, ListFault>
+    requires { IsAscending package_cmp (map rc_value items.old.items) }
+    ensures answer { Answers result (insert_answer (map rc_value items.old.items) new) }
+    ensures ok { OnOk result (map rc_value items.new.items ≡ put package_cmp (map rc_value items.old.items) new) }
+    ensures err { OnErr result (map rc_value items.new.items ≡ map rc_value items.old.items) }
+{
+    let place = place_of(items, &new);
+    if is_at(items, place, &new) {
+        return Ok(false);
+    }
+    if clashes_at(items, place, &new) {
+        return Err(ListFault::Conflict(new.triple(alloc)?));
+    }
+    if items.len() >= MOST {
+        return Err(ListFault::Full);
+    }
+    let new = Rc::new(alloc, new)?;
+    items.insert(place, new)?;
+    Ok(true)
+}
+
+fn remove_from(items: &mut Vec<Rc<Package>>, gone: &Package) -> bool
+    requires { IsAscending package_cmp (map rc_value items.old.items) }
+    ensures found { result ≡ has_member (map rc_value items.old.items) gone.now }
+    ensures list { map rc_value items.new.items ≡ without (map rc_value items.old.items) (gone.now ∷ []) }
+    ensures ascending { IsAscending package_cmp (map rc_value items.new.items) }
+{
+    match found_at(items, gone) {
+        Some(place) => {
+            items.remove(place);
+            true
+        }
+        None => false,
+    }
+}

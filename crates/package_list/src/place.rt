@@ -1,0 +1,121 @@
+//! Where a package stands in a list, or would stand, found by halves.
+ghost use Rattle.std.specs.Prelude.{◌≡◌, ◌≤◌, ◌<◌, ◌+◌, length, [], ◌∷◌, MatchOption, map, take, drop, remove, true, false};
+ghost use Rattle.std.specs.Rc.{rc_value};
+ghost use Rattle.package_core.specs.Order.{package_cmp, same_triple};
+ghost use Rattle.package_list.specs.Sorted.{IsAscending, IsBelow, AllLess, StartsAt, first_is, last_is};
+ghost use Rattle.package_list.specs.Lists.{has_member, clashes, without};
+
+use package_core::{Package, compare_packages, has_same_triple};
+use std::rc::Rc;
+
+/// The first place whose member isn't less than the package.
+pub(crate) fn place_of(items: &[Rc<Package>], wanted: &Package) -> usize
+    requires { IsAscending package_cmp (map rc_value items.now) }
+    ensures inside { result ≤ length items.now }
+    ensures before { AllLess package_cmp (take result (map rc_value items.now)) wanted.now }
+    ensures behind { StartsAt package_cmp (drop result (map rc_value items.now)) wanted.now }
+{
+    let mut low = 0;
+    let mut high = items.len();
+    while low < high {
+        let middle = low + (high - low) / 2;
+        if compare_packages(items[middle].as_ref(), wanted).is_lt() {
+            low = middle + 1;
+        } else {
+            high = middle;
+        }
+    }
+    low
+}
+
+/// The member at a place.
+fn member_at(items: &[Rc<Package>], place: usize) -> Option<&Package>
+    ensures { MatchOption result (drop place (map rc_value items.now) ≡ []) (λ p. drop place (map rc_value items.now) ≡ p.now ∷ drop (place + 1) (map rc_value items.now)) }
+{
+    if place < items.len() {
+        Some(items[place].as_ref())
+    } else {
+        None
+    }
+}
+
+/// Whether an equal stands at the place of the package.
+pub(crate) fn is_at(items: &[Rc<Package>], place: usize, wanted: &Package) -> bool
+    requires ascending { IsAscending package_cmp (map rc_value items.now) }
+    requires before { AllLess package_cmp (take place (map rc_value items.now)) wanted.now }
+    requires behind { StartsAt package_cmp (drop place (map rc_value items.now)) wanted.now }
+    ensures { result ≡ has_member (map rc_value items.now) wanted.now }
+{
+    match member_at(items, place) {
+        Some(member) => compare_packages(member, wanted).is_eq(),
+        None => false,
+    }
+}
+
+/// The place of the package's equal.
+pub(crate) fn found_at(items: &[Rc<Package>], wanted: &Package) -> Option<usize>
+    requires { IsAscending package_cmp (map rc_value items.now) }
+    ensures inside { MatchOption result (Unit {0}) (λ place. place < length items.now) }
+    ensures found { MatchOption result (has_member (map rc_value items.now) wanted.now ≡ false) (λ place. has_member (map rc_value items.now) wanted.now ≡ true) }
+    ensures others { MatchOption result (without (map rc_value items.now) (wanted.now ∷ []) ≡ map rc_value items.now) (λ place. without (map rc_value items.now) (wanted.now ∷ []) ≡ map rc_value (remove items.now place)) }
+{
+    let place = place_of(items, wanted);
+    if is_at(items, place, wanted) {
+        Some(place)
+    } else {
+        None
+    }
+}
+
+/// Whether a member clashes with the package. Those of its triple stand around its place.
+pub(crate) fn clashes_at(items: &[Rc<Package>], place: usize, wanted: &Package) -> bool
+    requires inside { place ≤ length items.now }
+    requires ascending { IsAscending package_cmp (map rc_value items.now) }
+    requires before { AllLess package_cmp (take place (map rc_value items.now)) wanted.now }
+    requires behind { StartsAt package_cmp (drop place (map rc_value items.now)) wanted.now }
+    ensures { result ≡ clashes (map rc_value items.now) wanted.now }
+{
+    let behind = place_behind(items, place, wanted);
+    last_has_triple(items, place, wanted) || first_has_triple(items, behind, wanted)
+}
+
+/// The first place at or after the package's own whose member is greater.
+fn place_behind(items: &[Rc<Package>], place: usize, wanted: &Package) -> usize
+    requires ascending { IsAscending package_cmp (map rc_value items.now) }
+    requires behind { StartsAt package_cmp (drop place (map rc_value items.now)) wanted.now }
+    ensures above { IsBelow package_cmp wanted.now (drop result (map rc_value items.now)) }
+    ensures same { clashes (drop place (map rc_value items.now)) wanted.now ≡ clashes (drop result (map rc_value items.now)) wanted.now }
+{
+    match member_at(items, place) {
+        Some(member) => {
+            if compare_packages(member, wanted).is_eq() {
+                place + 1
+            } else {
+                place
+            }
+        }
+        None => place,
+    }
+}
+
+fn first_has_triple(items: &[Rc<Package>], place: usize, wanted: &Package) -> bool
+    ensures { result ≡ first_is (λ q. same_triple q wanted.now) (drop place (map rc_value items.now)) }
+{
+    match member_at(items, place) {
+        Some(member) => has_same_triple(member, wanted),
+        None => false,
+    }
+}
+
+fn last_has_triple(items: &[Rc<Package>], place: usize, wanted: &Package) -> bool
+    requires { place ≤ length items.now }
+    ensures { result ≡ last_is (λ q. same_triple q wanted.now) (take place (map rc_value items.now)) }
+{
+    if place == 0 {
+        return false;
+    }
+    match member_at(items, place - 1) {
+        Some(member) => has_same_triple(member, wanted),
+        None => false,
+    }
+}
