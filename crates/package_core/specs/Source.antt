@@ -1,0 +1,79 @@
+-- The value of a field Source: `name` or `name (version)` (Debian Policy 5.6.1).
+use Rattle.std.specs.Prelude.{◌≡◌, ℕ, ◌+◌, ◌-◌, Bool, false, not, ◌&&◌, ◌||◌, ◌==◌, nat_eq, List, [], ◌∷◌, ◌++◌, length, take, drop, reverse, position, IsTrue, Option, Some, None, if◌then◌else◌}
+use Rattle.std.specs.List.{list_all, take_while}
+use Rattle.std.specs.Option.{option_map}
+use Rattle.ap_text.specs.Names.{is_package_name}
+use Rattle.deb_version.specs.VersionText.{is_version}
+
+-- space, tab and line end
+abbrev pub is_gap : ℕ → Bool
+is_gap c = c == 32 || c == 9 || c == 10
+
+abbrev pub is_opening : ℕ → Bool
+is_opening c = c == 40
+
+-- how many gaps stand in front
+abbrev pub gaps_before : List ℕ → ℕ
+gaps_before text = length (take_while is_gap text)
+
+-- how many stand at the end
+abbrev pub gaps_behind : List ℕ → ℕ
+gaps_behind text = length (take_while is_gap (reverse text))
+
+abbrev pub without_gaps_before : List ℕ → List ℕ
+without_gaps_before text = drop (gaps_before text) text
+
+abbrev pub without_gaps_behind : List ℕ → List ℕ
+without_gaps_behind text = take (length text - gaps_behind text) text
+
+-- what stands before the `)` that ends a text
+abbrev pub before_closing : List ℕ → Option (List ℕ)
+before_closing [] = None
+before_closing (c ∷ []) = if c == 41 then Some [] else None
+before_closing (c ∷ d ∷ ds) = option_map (λ front. c ∷ front) (before_closing (d ∷ ds))
+
+-- the two texts that a source names
+abbrev pub named : List ℕ → Option (List ℕ) → Option (List ℕ × Option (List ℕ))
+named before None = None
+named before (Some inside) = Some (without_gaps_behind before, Some (without_gaps_behind (without_gaps_before inside)))
+
+abbrev pub parts_at : List ℕ → Option ℕ → Option (List ℕ × Option (List ℕ))
+parts_at text None = Some (text, None)
+parts_at text (Some n) = named (take n text) (before_closing (drop (n + 1) text))
+
+-- The name and, in parentheses, the version, whatever they are; none where a parenthesis is not closed at the end.
+unfoldable pub source_parts : List ℕ → Option (List ℕ × Option (List ℕ))
+source_parts text = parts_at text (position is_opening text)
+
+-- they are a package name and, where it is there, a version
+abbrev pub are_source : Option (List ℕ × Option (List ℕ)) → Bool
+are_source None = false
+are_source (Some (name, None)) = is_package_name name
+are_source (Some (name, Some version)) = is_package_name name && is_version version
+
+abbrev pub is_source : List ℕ → Bool
+is_source text = are_source (source_parts text)
+
+abbrev pub AllGaps : List ℕ → Type 0
+AllGaps text = IsTrue (list_all is_gap text)
+
+-- the text is the name and, where there is one, the version in parentheses, with any gaps before and within these
+pub record SpellsVersion (behind version : List ℕ) : Type 0 where
+  pub before : List ℕ
+  pub first : List ℕ
+  pub last : List ℕ
+  pub is : behind ≡ before ++ 40 ∷ (first ++ (version ++ (last ++ 41 ∷ [])))
+  pub before_is : AllGaps before
+  pub first_is : AllGaps first
+  pub last_is : AllGaps last
+  pub version_is : IsTrue (is_version version)
+
+abbrev pub SpellsBehind : List ℕ → Option (List ℕ) → Type 0
+SpellsBehind behind None = behind ≡ []
+SpellsBehind behind (Some version) = SpellsVersion behind version
+
+pub record SpellsSource (text name : List ℕ) (version : Option (List ℕ)) : Type 0 where
+  pub behind : List ℕ
+  pub is : text ≡ name ++ behind
+  pub name_is : IsTrue (is_package_name name)
+  pub behind_is : SpellsBehind behind version

@@ -1,0 +1,18 @@
+//! Packages: what a binary stanza says of one, its identity, its order and its text.
+#![tactic(auto)]
+
+mod bytes;
+mod fault;
+mod laws;
+mod order;
+mod package;
+mod path;
+mod reading;
+mod said;
+mod source;
+mod text;
+
+pub use fault::{CompleteFault, PackageFault, Required};
+pub use laws::{equal_packages_are_twins, package_order_is_total, triples_begin_the_order};
+pub use order::{compare_packages, has_same_triple};
+pub use package::Package;
