@@ -1,0 +1,6 @@
+//! The truth of a query on a package: shell patterns, regular expressions, and queries made ready to be asked.
+#![tactic(auto)]
+
+mod patterns;
+
+pub use patterns::{MemPatterns, PatternErr, Patterns, RegexPatterns};
