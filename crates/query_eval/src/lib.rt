@@ -1,6 +1,8 @@
 //! The truth of a query on a package: shell patterns, regular expressions, and queries made ready to be asked.
 #![tactic(auto)]
 
+mod class;
+mod letter;
 mod patterns;
 
 pub use patterns::{MemPatterns, PatternErr, Patterns, RegexPatterns};
