@@ -1,1 +1,2 @@
 pub mod ClassFacts
+pub mod ElementFacts

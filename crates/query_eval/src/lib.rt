@@ -2,6 +2,7 @@
 #![tactic(auto)]
 
 mod class;
+mod element;
 mod letter;
 mod patterns;
 
