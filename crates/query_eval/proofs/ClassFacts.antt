@@ -1,9 +1,9 @@
 -- Classes step by step.
-use Rattle.std.proofs.Common.{◌≡◌, ℕ, Bool, true, false, not, ◌&&◌, ◌||◌, ◌==◌, List, [], ◌∷◌, Option, Some, None, if◌then◌else◌, refl, ap, subst, ◌∙◌, sym}
+use Rattle.std.proofs.Common.{◌≡◌, ℕ, Bool, true, false, not, ◌&&◌, ◌||◌, ◌==◌, List, [], ◌∷◌, Some, None, if◌then◌else◌, refl, ap, subst, sym}
 use Rattle.std.proofs.lemmas.Bool.{and_parts, eqb-true, not-true}
 use Rattle.query_eval.specs.declared.letter.Letter.{Letter}
 use Rattle.query_eval.specs.Glob.{plain, escaped, class_end, class_letters, is_dash, is_in}
-use Rattle.query_eval.specs.GlobReading.{At, letter, end, missing, letter_at, escaped_at, end_from, letters_from}
+use Rattle.query_eval.specs.GlobReading.{letter, end, missing, letter_at, end_from, letters_from}
 
 end_one : (b d : Bool) (c : ℕ) → (if b then None else if d then Some [] else None) ≡ end_from (if b then missing else if d then end [] else letter (plain c) [])
 end_one true d c = refl

@@ -1,7 +1,7 @@
 -- Elements one by one.
-use Rattle.std.proofs.Common.{◌≡◌, ◌≤◌, ◌<◌, ℕ, zero, suc, Bool, true, false, not, ◌&&◌, ◌||◌, ◌==◌, List, [], ◌∷◌, length, Option, Some, None, if◌then◌else◌, refl, ap, ◌∙◌, sym, arith, le_of_suc-le-suc}
+use Rattle.std.proofs.Common.{◌≡◌, ◌≤◌, ℕ, zero, suc, Bool, true, false, not, ◌&&◌, ◌==◌, List, [], ◌∷◌, length, Option, Some, None, if◌then◌else◌, refl, ap, arith}
 use Rattle.std.specs.Option.{IfSome}
-use Rattle.query_eval.specs.Glob.{Element, run, any_one, exactly, class, class_end, class_letters, is_negation, is_negated, behind_negation, class_or_itself, opened, escaped_one, first_element, elements, elements_of}
+use Rattle.query_eval.specs.Glob.{run, any_one, exactly, class_end, is_negation, behind_negation, class_or_itself, opened, escaped_one, first_element, elements, elements_of}
 
 end_one_short : (b d : Bool) → IfSome (if b then None else if d then Some [] else None) (λ (rest : List ℕ). length rest ≤ 1)
 end_one_short true d = tt

@@ -1,6 +1,5 @@
 -- Shell patterns, by character.
-use Rattle.std.specs.Prelude.{◌≡◌, ℕ, zero, suc, Bool, true, false, not, ◌&&◌, ◌||◌, ◌==◌, nat_le, List, [], ◌∷◌, ◌++◌, length, Option, Some, None, if◌then◌else◌, IsTrue}
-use Rattle.std.specs.List.{list_any}
+use Rattle.std.specs.Prelude.{◌≡◌, ℕ, zero, suc, Bool, true, false, not, ◌&&◌, ◌||◌, ◌==◌, nat_le, List, [], ◌∷◌, ◌++◌, length, Option, Some, None, if◌then◌else◌}
 use Rattle.std.specs.Str.{chars}
 use Rattle.query_eval.specs.declared.letter.Letter.{Letter}
 
@@ -106,17 +105,31 @@ takes any_one c = true
 takes (exactly d) c = c == d
 takes (class negated letters) c = not_if negated (is_in letters c)
 
+-- one character that passes a test
+pub record IsOne (test : ℕ → Bool) (piece : List ℕ) : Type 0 where
+  pub character : ℕ
+  pub is : piece ≡ character ∷ []
+  pub passes : test character ≡ true
+
 -- the element stands for these characters
 abbrev pub Stands : Element → List ℕ → Type 0
 Stands run piece = Unit {0}
-Stands any_one piece = (c : ℕ) × (piece ≡ c ∷ [])
-Stands (exactly d) piece = piece ≡ d ∷ []
-Stands (class negated letters) piece = (c : ℕ) × (piece ≡ c ∷ []) × IsTrue (takes (class negated letters) c)
+Stands any_one piece = IsOne (takes any_one) piece
+Stands (exactly d) piece = IsOne (takes (exactly d)) piece
+Stands (class negated letters) piece = IsOne (takes (class negated letters)) piece
+
+-- a first piece for the element, and the rest as it is asked
+pub record Begins (e : Element) (Rest : List ℕ → Type 0) (cs : List ℕ) : Type 0 where
+  pub piece : List ℕ
+  pub rest : List ℕ
+  pub split : cs ≡ piece ++ rest
+  pub stands : Stands e piece
+  pub left : Rest rest
 
 -- the characters can be cut into pieces, one for each element
 abbrev pub Pieces : List Element → List ℕ → Type 0
 Pieces [] cs = cs ≡ []
-Pieces (e ∷ es) cs = (piece : List ℕ) × (rest : List ℕ) × (cs ≡ piece ++ rest) × Stands e piece × Pieces es rest
+Pieces (e ∷ es) cs = Begins e (Pieces es) cs
 
 -- the pattern stands for the whole text
 unfoldable pub Glob : List ℕ → List ℕ → Type 0

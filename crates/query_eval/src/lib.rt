@@ -3,7 +3,9 @@
 
 mod class;
 mod element;
+mod glob;
 mod letter;
 mod patterns;
 
+pub use glob::glob_matches;
 pub use patterns::{MemPatterns, PatternErr, Patterns, RegexPatterns};

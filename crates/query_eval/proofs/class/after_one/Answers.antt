@@ -1,4 +1,4 @@
-use Rattle.std.proofs.Common.{◌≡◌, ◌∷◌, ◌||◌, List, sym, ap, ◌∙◌}
+use Rattle.std.proofs.Common.{◌∷◌, ◌||◌, sym, ap, ◌∙◌}
 use Rattle.std.proofs.lemmas.Bool.{ne_eqb}
 use Rattle.query_eval.specs.Glob.{is_in}
 use Rattle.query_eval.proofs.ClassFacts.{single_step, dash_step}
