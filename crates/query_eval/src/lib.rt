@@ -1,4 +1,4 @@
-//! The truth of a query on a package: shell patterns, regular expressions, and queries made ready to be asked.
+//! Shell patterns, and regular expressions with who builds them.
 #![tactic(auto)]
 
 mod class;
@@ -6,6 +6,8 @@ mod element;
 mod glob;
 mod letter;
 mod patterns;
+#[cfg(test)]
+mod tests;
 
 pub use glob::glob_matches;
 pub use patterns::{MemPatterns, PatternErr, Patterns, RegexPatterns};
