@@ -1,0 +1,17 @@
+use Rattle.std.proofs.Common.{◌≡◌, ◌+◌, length}
+use Rattle.std.specs.Str.{chars}
+use Rattle.query_eval.specs.Glob.{elements_of}
+use Rattle.query_eval.specs.GlobReading.{covers, any_tail}
+use denote.Shadow.{shadow}
+use denote.Text.{Utf8}
+use Rattle.query_eval.proofs.glob.covers_some_end.Given as goal
+
+abbrev pub invariant-ends : goal.invariant-ends
+invariant-ends l = record {
+  pattern_is : shadow (Utf8 l.pattern);
+  text_is : shadow (Utf8 l.left);
+  same : any_tail (covers (elements_of (chars l.pattern))) (chars l.left) ≡ any_tail (covers (elements_of (chars l.fn.pattern))) (chars l.text);
+}
+
+abbrev pub decreases-ends : goal.decreases-ends
+decreases-ends l = length l.pattern + length l.left

@@ -1,0 +1,19 @@
+-- What building a regular expression promises.
+use Rattle.std.specs.Prelude.{◌≡◌, ◌⊎◌, ℕ, ◌<◌, ◌-◌, ◌^◌, List, None, IfSome, chars}
+use Rattle.regex.specs.Patterns.{default_config}
+use Rattle.regex.specs.Strings.{regex_source, regex_config, IsReadFromSource}
+use Rattle.regex.specs.declared.string.regex.Regex.{Regex}
+use Rattle.regex_syntax.specs.Grammar.{read}
+
+-- what the grammar reads in the text is what the expression searches for
+abbrev pub IsReadFrom : List ℕ → Regex → Type 0
+IsReadFrom text r = (regex_source r ≡ text) × (regex_config r ≡ default_config) × IsReadFromSource r
+
+-- the grammar reads nothing in the text, or its nesting is deeper than the limit
+abbrev pub IsNoPattern : List ℕ → Type 0
+IsNoPattern text = (read default_config (chars text) ≡ None)
+    ⊎ IfSome (read default_config (chars text)) (λ (re, _). default_config.nest_limit < re.depth)
+
+-- a count rose, or stands at its last value
+abbrev pub Rose : ℕ → ℕ → Type 0
+Rose old new = (old < new) ⊎ (new ≡ 2 ^ 64 - 1)

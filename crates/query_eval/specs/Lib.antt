@@ -1,0 +1,4 @@
+pub mod Build
+pub mod Glob
+pub mod GlobReading
+pub mod GlobViews

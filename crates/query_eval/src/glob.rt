@@ -1,0 +1,98 @@
+//! Shell patterns against texts.
+
+ghost use Rattle.std.specs.Prelude.{◌≡◌, ◌↔◌, ℕ, List, [], IsTrue};
+ghost use Rattle.std.specs.Str.{chars};
+ghost use Rattle.query_eval.specs.Glob.{Glob, elements_of};
+ghost use Rattle.query_eval.specs.GlobReading.{any_tail, covers, front};
+ghost use Rattle.query_eval.specs.GlobViews.{front_view, IsNearer};
+
+use crate::element::{Element, first_element, takes};
+use crate::letter::split_first_char;
+
+/// How far a pattern and a text go together from their beginnings: to the end of both, to a `*` of the pattern, behind
+/// which both go on, or no further.
+#[derive(Drop)]
+pub(crate) enum Front<'p, 't> {
+    Whole,
+    Star(&'p str, &'t str),
+    Fails,
+}
+
+fn front_of<'p, 't>(pattern: &'p str, text: &'t str) -> Front<'p, 't>
+    ensures value { front_view result ≡ front (elements_of (chars pattern.now)) (chars text.now) }
+    ensures nearer { IsNearer result pattern.now text.now }
+{
+    let mut pattern = pattern;
+    let mut left = text;
+    'elements: loop {
+        let Some((element, behind)) = first_element(pattern) else {
+            return front_at_end(left);
+        };
+        if matches!(element, Element::Run) {
+            return Front::Star(behind, left);
+        }
+        let Some((c, rest)) = split_first_char(left) else {
+            return Front::Fails;
+        };
+        if !takes(&element, c) {
+            return Front::Fails;
+        }
+        pattern = behind;
+        left = rest;
+    }
+}
+
+fn front_at_end<'p, 't>(text: &'t str) -> Front<'p, 't>
+    ensures value { front_view result ≡ front [] (chars text.now) }
+    ensures nearer { (p : List ℕ) → IsNearer result p text.now }
+{
+    match split_first_char(text) {
+        None => Front::Whole,
+        Some(_) => Front::Fails,
+    }
+}
+
+/// Whether the pattern stands for some end of the text.
+fn covers_some_end(pattern: &str, text: &str) -> bool
+    ensures { result ≡ any_tail (covers (elements_of (chars pattern.now))) (chars text.now) }
+{
+    let mut pattern = pattern;
+    let mut left = text;
+    'ends: loop {
+        match front_of(pattern, left) {
+            Front::Whole => return true,
+            Front::Star(behind, rest) => {
+                pattern = behind;
+                left = rest;
+            }
+            Front::Fails => {
+                let Some((_, rest)) = split_first_char(left) else {
+                    return false;
+                };
+                left = rest;
+            }
+        }
+    }
+}
+
+fn covers_whole(pattern: &str, text: &str) -> bool
+    ensures { result ≡ covers (elements_of (chars pattern.now)) (chars text.now) }
+{
+    match front_of(pattern, text) {
+        Front::Whole => true,
+        Front::Star(behind, rest) => covers_some_end(behind, rest),
+        Front::Fails => false,
+    }
+}
+
+/// Whether a shell pattern stands for the whole text, character by character and with case.
+///
+/// `*` stands for any run of characters, `?` for any one, `\c` for the character c, and a last `\` for itself. `[` begins
+/// a class of characters and of ranges `a-b`, which ends at the next `]`; a first `^` or `!` negates it, and a `]` that
+/// stands first is a member. A `[` without its end, and every other character, stands for itself. It takes no memory, and
+/// no more time than the product of the two lengths.
+pub fn glob_matches(pattern: &str, text: &str) -> bool
+    ensures { IsTrue result ↔ Glob pattern.now text.now }
+{
+    covers_whole(pattern, text)
+}

@@ -1,0 +1,144 @@
+//! Who builds regular expressions.
+
+ghost use Rattle.std.specs.Prelude.{◌≡◌, ◌⊎◌, ◌≤◌, ℕ, List, IfOk, OnOk, Option, Some, None, string_bytes, option_map};
+ghost use Rattle.query_eval.specs.Build.{IsReadFrom, IsNoPattern, Rose};
+
+use regex::Regex;
+use std::alloc::Global;
+
+/// Why a regular expression wasn't built.
+#[derive(Clone, Copy, PartialEq, Eq, Debug)]
+pub enum PatternErr {
+    /// The text is no pattern, or is nested too deep.
+    Syntax,
+    /// The pattern is too large once it is built.
+    Size,
+    /// There was no memory.
+    OutOfMemory,
+}
+
+/// Builds regular expressions, and counts those that it refuses for their size.
+pub trait Patterns {
+    // How many patterns were refused for their size.
+    ghost refusals: { Self → ℕ };
+
+    // The text of the last such pattern, if there was one.
+    ghost refused: { Self → Option (List ℕ) };
+
+    /// Builds the regular expression that a text is.
+    fn build(&mut self, text: &str) -> Result<Regex, PatternErr>
+        // The expression is what the grammar reads from the text.
+        ensures read { IfOk result (IsReadFrom text.now) }
+        ensures syntax { result ≡ Err PatternErr.Syntax → IsNoPattern text.now }
+        ensures size { result ≡ Err PatternErr.Size → Rose (refusals self.old) (refusals self.new) }
+        ensures named { result ≡ Err PatternErr.Size → refused self.new ≡ Some text.now }
+        ensures never_falls { refusals self.old ≤ refusals self.new }
+        // No other answer changes which text was refused.
+        ensures kept { (result ≡ Err PatternErr.Size) ⊎ (refused self.new ≡ refused self.old) };
+}
+
+/// The patterns that the crate `regex` builds.
+#[derive(Drop)]
+pub struct RegexPatterns {
+    alloc: Global,
+    refusals: u64,
+    refused: Option<String>,
+}
+
+impl RegexPatterns {
+    /// A builder that has refused nothing.
+    pub fn new(alloc: Global) -> RegexPatterns
+        ensures refusals { result.refusals ≡ 0 }
+        ensures refused { result.refused ≡ Option.None }
+    {
+        RegexPatterns {
+            alloc,
+            refusals: 0,
+            refused: None,
+        }
+    }
+
+    /// Counts one more refusal, of this text. The count stands still at its type's end.
+    fn refuse(&mut self, text: &str) -> PatternErr
+        ensures rose { result ≡ PatternErr.Size → Rose self.old.refusals self.new.refusals }
+        ensures named { result ≡ PatternErr.Size → option_map string_bytes self.new.refused ≡ Some text.now }
+        ensures never_falls { self.old.refusals ≤ self.new.refusals }
+        ensures kept { (result ≡ PatternErr.Size) ⊎ (self.new.refused ≡ self.old.refused) }
+        ensures syntax { (result ≡ PatternErr.Size) ⊎ (result ≡ PatternErr.OutOfMemory) }
+    {
+        let Ok(kept) = String::from_str(self.alloc, text) else {
+            return PatternErr::OutOfMemory;
+        };
+        self.refused = Some(kept);
+        self.refusals = self.refusals.saturating_add(1);
+        PatternErr::Size
+    }
+}
+
+impl Patterns for RegexPatterns {
+    ghost use Rattle.std.specs.Prelude.{option_map, string_bytes};
+
+    ghost refusals = { λ p. p.refusals };
+
+    ghost refused = { λ p. option_map string_bytes p.refused };
+
+    fn build(&mut self, text: &str) -> Result<Regex, PatternErr> {
+        match Regex::new(self.alloc, text) {
+            Ok(regex) => Ok(regex),
+            Err(regex::Error::Syntax(_)) => Err(PatternErr::Syntax),
+            Err(regex::Error::CompiledTooBig) => Err(self.refuse(text)),
+            Err(_) => Err(PatternErr::OutOfMemory),
+        }
+    }
+}
+
+/// The same, where chosen calls refuse their pattern for its size: those whose ordinals, counted from 0, are listed.
+#[derive(Drop)]
+pub struct MemPatterns {
+    patterns: RegexPatterns,
+    failing: Vec<u64>,
+    calls: u64,
+}
+
+impl MemPatterns {
+    /// A builder that has refused nothing.
+    pub fn new(alloc: Global, failing: Vec<u64>) -> MemPatterns
+        ensures refusals { result.patterns.refusals ≡ 0 }
+        ensures refused { result.patterns.refused ≡ Option.None }
+        ensures calls { result.calls ≡ 0 }
+        ensures failing { result.failing ≡ failing }
+    {
+        MemPatterns {
+            patterns: RegexPatterns::new(alloc),
+            failing,
+            calls: 0,
+        }
+    }
+
+    /// Whether the next call fails. The ordinal stays at its type's end, where no call fails.
+    fn fails_next(&mut self) -> bool
+        ensures patterns { self.new.patterns ≡ self.old.patterns }
+    {
+        if self.calls == u64::MAX {
+            return false;
+        }
+        let fails = self.failing.contains(&self.calls);
+        self.calls += 1;
+        fails
+    }
+}
+
+impl Patterns for MemPatterns {
+    ghost use Rattle.std.specs.Prelude.{option_map, string_bytes};
+
+    ghost refusals = { λ p. p.patterns.refusals };
+
+    ghost refused = { λ p. option_map string_bytes p.patterns.refused };
+
+    fn build(&mut self, text: &str) -> Result<Regex, PatternErr> {
+        if self.fails_next() {
+            return Err(self.patterns.refuse(text));
+        }
+        self.patterns.build(text)
+    }
+}
