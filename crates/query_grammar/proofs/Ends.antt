@@ -227,7 +227,7 @@ shut-shape Quoted rest b w = tt
 shut-shape Broken rest b w = tt
 shut-shape (Mark c) rest b w = tt
 
-shut : (front : List Piece) (rest : List ℕ) → NotFirst is_blank rest → NotFirst is_word rest → LastSeparates front rest
+pub shut : (front : List Piece) (rest : List ℕ) → NotFirst is_blank rest → NotFirst is_word rest → LastSeparates front rest
 shut [] rest b w = tt
 shut (p ∷ []) rest b w = shut-shape p.shape rest b w
 shut (p ∷ q ∷ ps) rest b w = shut (q ∷ ps) rest b w

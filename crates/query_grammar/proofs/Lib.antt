@@ -19,3 +19,5 @@ pub mod Shown
 pub mod Lexed
 pub mod Again
 pub mod Round
+pub mod May
+pub mod Kind

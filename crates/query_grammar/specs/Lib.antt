@@ -8,3 +8,4 @@ pub mod Answers
 pub mod Places
 pub mod Written
 pub mod TreeCode
+pub mod Kinds

@@ -61,7 +61,7 @@ fn read_pieces(alloc: Global, text: &str) -> Result<Query, QueryFault>
 /// Reads a query of any length, as a stored filter may have.
 ///
 /// The answer is the tree that the text spells in at most 64 levels. There is none exactly where the fault is `At`,
-/// which is never `TooLong`.
+/// which is never `TooLong`; its kind is the first that fits its place.
 pub fn read_filter(alloc: Global, text: &str) -> Result<Query, QueryFault>
     // What is read is spelled so.
     ensures found { IfOk result (λ query. QueryText 64 text.now (plain query)) }

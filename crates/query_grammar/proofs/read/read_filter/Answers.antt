@@ -8,6 +8,7 @@ use Rattle.query_grammar.specs.Reading.{tree, fault, reading}
 use Rattle.query_grammar.specs.Views.{Reads}
 use Rattle.query_grammar.specs.Answers.{IsTree, IsFilterFault}
 use Rattle.query_grammar.proofs.PlaceOf.{reading_place}
+use Rattle.query_grammar.proofs.Kind.{reading_kind}
 use Rattle.query_grammar.proofs.Agreement.{reading_found, reading_only}
 use Rattle.query_grammar.proofs.read.read_filter.Goals as goal
 
@@ -22,7 +23,7 @@ only text (Err OutOfMemory) t h q = tt
 
 which : (text : List ℕ) (r : Result Query QueryFault) → Reads r (reading text) → IfErr r (IsFilterFault text)
 which text (Ok query) h = tt
-which text (Err (At place kind)) h = (reading_place text place kind h, h)
+which text (Err (At place kind)) h = (reading_place text place kind h, reading_kind text place kind h, h)
 which text (Err OutOfMemory) h = tt
 
 pub returns-clause-found : goal.returns-clause-found

@@ -1,0 +1,64 @@
+-- Which pieces may stand where the reader stands.
+use Rattle.std.proofs.Common.{◌≡◌, ◌⊎◌, inl, inr, ℕ, suc, zero, ◌+◌, ◌<◌, ◌==◌, Bool, true, false, cond, ◌||◌, not, List, [], ◌∷◌, ◌++◌, length, Option, Some, None, IsTrue, refl, sym, ap, ◌∙◌, subst, append_assoc, append-nil, arith, lit<}
+use Rattle.std.specs.List.{prefix_len}
+use Rattle.std.proofs.lemmas.Bool.{or_right, true≢false}
+use Rattle.deb_version.specs.VersionText.{is_version, fault_of, epoch_of, start_of, upstream_in, revision_in, is_epoch, is_revision_byte, is_upstream_byte, bad_in_upstream, bad_in_revision}
+use Rattle.deb_version.specs.Cuts.{is_digit}
+use Rattle.deb_version.specs.declared.order.Relation.{Relation}
+use Rattle.query_grammar.specs.declared.query.Test.{Test}
+use Rattle.query_grammar.specs.declared.piece.Place.{Place}
+use Rattle.query_grammar.specs.declared.piece.Place.TheVariants.{Outside, BehindWord, Opening, Inside}
+use Rattle.query_grammar.specs.declared.piece.Shape.{Shape}
+use Rattle.query_grammar.specs.declared.piece.Shape.TheVariants.{Blank, Word, Operator, Lone, Quoted, Broken, Mark}
+use Rattle.query_grammar.specs.declared.fault.QueryKind.{QueryKind}
+use Rattle.query_grammar.specs.Pieces.{Piece, token, is_blank, is_word, plain_cut, inner_cut, opening_cut, cut_of, next_place, joined}
+use Rattle.query_grammar.specs.Words.{is_package, is_arch, may_test}
+use Rattle.query_grammar.specs.Reading.{State, Step, goes, stops, step}
+use Rattle.query_grammar.specs.Places.{CanBegin}
+use Rattle.query_grammar.proofs.Lexing.{NotFirst, Separates, IsCut, FrontCut, place_after}
+use Rattle.query_grammar.proofs.Fronts.{LastSeparates, front_join, other_end, joined-append}
+use Rattle.query_grammar.proofs.Reach.{IsOuter, Open}
+use Rattle.query_grammar.proofs.Viable.{Reach, reach-step}
+use Rattle.query_grammar.proofs.Ends.{viable}
+use Rattle.query_grammar.proofs.PlaceOf.{no_further}
+use Rattle.query_grammar.specs.Kinds.{run_of, sign_of}
+
+abbrev pub here : List Piece → Place
+here front = place_after Outside front
+
+-- the reader stands behind pieces that are a text's
+pub record Stand (front : List Piece) (s : State) : Type 0 where
+  pub reach : Reach 64 front s
+  pub rest : List ℕ
+  pub cut : FrontCut Outside front rest
+
+-- a piece at which the reader goes on, cut off there, may stand there
+pub stand-more : (front : List Piece) (s t : State) (p : Piece) (rest : List ℕ) → Stand front s → step s (token p.shape p.bytes) ≡ goes t → IsCut (here front) p rest → LastSeparates front (p.bytes ++ rest) → Stand (front ++ p ∷ []) t
+stand-more front s t p rest d e cut last =
+    let before = other_end front Outside d.rest (p.bytes ++ rest) d.reach.sound d.cut last in
+    record {
+      reach = reach-step 64 front s t p d.reach e;
+      rest = rest;
+      cut = front_join front (p ∷ []) Outside rest (subst (λ xs. FrontCut Outside front xs) (ap (λ xs. xs ++ rest) (sym (append-nil p.bytes))) before) (cut, tt);
+    }
+
+pub may-stand : (front : List Piece) (s : State) → Stand front s → CanBegin 64 front
+may-stand front s d = viable 64 front s d.rest d.reach d.cut
+
+-- one piece
+pub may-one : (front : List Piece) (s t : State) (p : Piece) → Stand front s → step s (token p.shape p.bytes) ≡ goes t → IsCut (here front) p [] → LastSeparates front p.bytes → CanBegin 64 (front ++ p ∷ [])
+may-one front s t p d e cut last = may-stand (front ++ p ∷ []) t (stand-more front s t p [] d e cut (subst (λ xs. LastSeparates front xs) (sym (append-nil p.bytes)) last))
+
+-- two pieces
+pub may-two : (front : List Piece) (s t u : State) (p q : Piece) → Stand front s → step s (token p.shape p.bytes) ≡ goes t → step t (token q.shape q.bytes) ≡ goes u → IsCut (here front) p q.bytes → LastSeparates front (p.bytes ++ q.bytes) → IsCut (here (front ++ p ∷ [])) q [] → LastSeparates (front ++ p ∷ []) q.bytes → CanBegin 64 (front ++ p ∷ q ∷ [])
+may-two front s t u p q d e f cut last next apart =
+    subst (λ ps. CanBegin 64 ps) (append_assoc front (p ∷ []) (q ∷ []))
+    (may-one (front ++ p ∷ []) t u q (stand-more front s t p q.bytes d e cut last) f next apart)
+
+-- none where the reader stops
+pub never-one : (front : List Piece) (s : State) (p : Piece) (ps : List Piece) (kind : QueryKind) → Stand front s → step s (token p.shape p.bytes) ≡ stops kind → CanBegin 64 (front ++ p ∷ ps) → ⊥
+never-one front s p ps kind d e h = no_further 64 front s p ps kind d.reach e h
+
+pub never-two : (front : List Piece) (s t : State) (p q : Piece) (kind : QueryKind) → Stand front s → step s (token p.shape p.bytes) ≡ goes t → step t (token q.shape q.bytes) ≡ stops kind → CanBegin 64 (front ++ p ∷ q ∷ []) → ⊥
+never-two front s t p q kind d e f h =
+    no_further 64 (front ++ p ∷ []) t q [] kind (reach-step 64 front s t p d.reach e) f (subst (λ ps. CanBegin 64 ps) (sym (append_assoc front (p ∷ []) (q ∷ []))) h)
