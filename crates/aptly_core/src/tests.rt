@@ -1,4 +1,4 @@
-//! Worked rows.
+//! What the parts of the machine answer on worked examples.
 use crate::catalogue_text::{RootFault, read_root, root_text};
 use crate::command_words::{Command, WordFault, Words, read_words};
 use crate::machine_state::{Kind, Limit, Refusal, State};
