@@ -1,40 +1,39 @@
 -- From the opening and the run to the whole call.
-use Rattle.std.proofs.Common.{◌≡◌, ◌≢◌, ◌⊎◌, ◌↔◌, inl, inr, List, ℕ, Bool, true, false, [], ◌∷◌, ◌++◌, take, drop, Option, Some, None, Result, Ok, Err, OnOk, length, refl, sym, ◌∙◌, ap, subst, append-nil, arith}
+use Rattle.std.proofs.Common.{◌≡◌, ◌⊎◌, inl, inr, List, ℕ, true, false, [], ◌∷◌, ◌++◌, take, drop, Option, Some, None, Result, Ok, Err, OnOk, refl, sym, ◌∙◌, ap, subst, append-nil}
 use Rattle.std.proofs.lemmas.List.{take-append-drop}
 use Rattle.ap_host.specs.declared.host.Op.{Op}
-use Rattle.ap_host.specs.declared.host.Op.TheVariants.{Create, Append, Sync, Rename, Remove, Barrier, Say, Claim}
+use Rattle.ap_host.specs.declared.host.Op.TheVariants.{Barrier, Say, Claim}
 use Rattle.ap_host.specs.declared.host.HostErr.{HostErr}
 use Rattle.ap_host.specs.declared.host.HostErr.TheVariants.{Failed, OutOfMemory as NoMemory}
-use Rattle.ap_host.specs.Disk.{Content, Files, Log, extended, live_of, said}
+use Rattle.ap_host.specs.Disk.{Files, Log, extended, live_of, said}
 use Rattle.ap_host.specs.Calls.{Did}
 use Rattle.ap_host.specs.Changes.{EachOp}
 use Rattle.ap_host.proofs.ChangeLemmas.{EachOp-append}
 use Rattle.ap_host.proofs.DiskLemmas.{extended-append}
-use Rattle.run_model.specs.Run.{Ran, AtRest, Grows, IsFront}
-use Rattle.run_model.specs.Call.{Entry, Opened, OpenedWhole, RanAll}
+use Rattle.run_model.specs.Run.{AtRest, IsFront}
+use Rattle.run_model.specs.Call.{Entry, OpenedWhole, RanAll}
 use Rattle.run_model.proofs.Joins.{said-append}
 use Rattle.run_model.proofs.Openings.{first, live_first, durable_first, opened_none, opened_claimed, opened_more, opened_whole}
 use Rattle.run_model.proofs.Opens.{opened_then_ran, broke_opening}
 use Rattle.aptly_core.specs.declared.catalogue_root.LoadFault.{LoadFault}
 use Rattle.aptly_core.specs.declared.catalogue_root.LoadFault.TheVariants as faults
 use Rattle.aptly_core.specs.declared.command_words.Command.{Command}
-use Rattle.aptly_core.specs.declared.machine_state.Refusal.{Refusal}
 use Rattle.aptly_core.specs.declared.status.Damage.{Damage}
 use Rattle.aptly_core.specs.declared.status.Status.{Status}
 use Rattle.aptly_core.specs.declared.status.Status.TheVariants.{Done, Refused, Usage, HostFault, InboxFault, OutOfMemory, Damaged, Busy}
-use Rattle.aptly_core.specs.Calls.{ClaimsFirst, GotClaim, CallTo, Called, CalledWith, ToldUsage, TellsUsage, SaysUsage, IsSaid, IsRunAnswer, IsDamagedAnswer}
-use Rattle.aptly_core.specs.Machine.{machine, IsWork, IsOpening, IsOnce, Opening, Sets, targets}
-use Rattle.aptly_core.specs.Opens.{Enters, OpensTo, SettlesTo, RunsClaimed, Broke, Went, IsFault, IsSettling, IsClaimedStatus, IsDamagedOrFault}
-use Rattle.aptly_core.specs.Replies.{refusal_line, usage_line}
+use Rattle.aptly_core.specs.Calls.{GotClaim, CallTo, Called, CalledWith, TellsUsage, SaysUsage, IsSaid, IsRunAnswer, IsDamagedAnswer}
+use Rattle.aptly_core.specs.Machine.{machine, IsWork, IsOpening, IsOnce, Opening, Sets}
+use Rattle.aptly_core.specs.Opens.{OpensTo, RunsClaimed, IsFault, IsSettling, IsClaimedStatus, IsDamagedOrFault}
+use Rattle.aptly_core.specs.Replies.{usage_line}
 use Rattle.aptly_core.specs.Root.{root_text}
-use Rattle.aptly_core.specs.Runs.{RanTo, RunsList, EndsWith, IsRunStatus, SaysRefusal}
+use Rattle.aptly_core.specs.Runs.{RanTo, RunsList, EndsWith, IsRunStatus}
 use Rattle.aptly_core.specs.State.{Valid}
 use Rattle.aptly_core.specs.Store.{root, IsRootOf, Stored, Sound, SoundForNone, IsDamage, Open}
 use Rattle.aptly_core.specs.Values.{StateView}
 use Rattle.aptly_core.specs.Words.{Commands, IsUsagePlace}
 use Rattle.aptly_core.proofs.Lawful.{lawful}
-use Rattle.aptly_core.proofs.RunLemmas.{IsWord, words_each, say_words}
-use Rattle.aptly_core.proofs.SettleLemmas.{settling_each, settling_work, settling_quiet, settling_target, nothing_settled}
+use Rattle.aptly_core.proofs.RunLemmas.{words_each, say_words}
+use Rattle.aptly_core.proofs.SettleLemmas.{settling_each, settling_work, settling_quiet, settling_target}
 use Rattle.aptly_core.proofs.WholeLemmas.{one_state}
 use Rattle.aptly_core.proofs.WordLemmas.{one_list, no_place}
 

@@ -1,24 +1,24 @@
 -- What a stop within a commit may leave.
-use Rattle.std.proofs.Common.{◌≡◌, ◌==◌, ◌≢◌, ◌⊎◌, ◌&&◌, inl, inr, ℕ, ◌≤◌, Bool, true, false, List, [], ◌∷◌, ◌++◌, length, Option, Some, None, IsSome, IsTrue, IsFalse, MatchBool, Result, Ok, Err, OnOk, refl, sym, ◌∙◌, ap, subst, codes}
+use Rattle.std.proofs.Common.{◌≡◌, ◌==◌, ◌≢◌, ◌⊎◌, inl, inr, ℕ, Bool, true, false, List, [], ◌∷◌, ◌++◌, Some, None, IsTrue, MatchBool, Result, Ok, Err, OnOk, refl, sym, ◌∙◌, ap, subst, codes}
 use Rattle.ap_text.specs.Paths.{is_below}
 use Rattle.ap_host.specs.declared.host.Op.{Op}
 use Rattle.ap_host.specs.declared.host.Op.TheVariants.{Create, Append, Sync, Rename, Remove, Barrier, Say, Claim}
 use Rattle.ap_host.specs.declared.host.HostErr.{HostErr}
-use Rattle.ap_host.specs.Disk.{Path, Content, Files, with_file, moved, Log, Disk, disk_of, extended, live_of, Image, Images, said, Durable, Throughout}
+use Rattle.ap_host.specs.Disk.{Path, Content, Files, with_file, moved, Log, Disk, disk_of, extended, live_of, Images, said, Durable, Throughout}
 use Rattle.ap_host.specs.Calls.{Did}
 use Rattle.ap_host.specs.Changes.{EachOp, TouchesOnly, SameExcept}
-use Rattle.ap_host.proofs.DiskLemmas.{disk_of-step, with_file-same, Throughout-map, Throughout-none, Throughout-end, extended-append, extended-none}
-use Rattle.ap_host.proofs.ChangeLemmas.{EachOp-map, EachOp-append, SameExcept-refl, after_same, same_after, IsPart, AllOrPart, part_moments, part_each, part_touches, did_part, did_ok}
+use Rattle.ap_host.proofs.DiskLemmas.{disk_of-step, with_file-same, Throughout-map, Throughout-none, Throughout-end, extended-append}
+use Rattle.ap_host.proofs.ChangeLemmas.{EachOp-map, after_same, same_after, IsPart, AllOrPart, part_moments, part_each, part_touches, did_part}
 use Rattle.ap_host.proofs.LegalLemmas.{law_of_live_image, image_at, durable_image}
 use Rattle.stage_file.specs.Stage.{StageState, stage_path, is_staged, IsInStep, LaysAt, IsLaid, Lays, Places, Barriers}
-use Rattle.stage_file.proofs.StageLemmas.{lays_only, live_step_of, on_ok}
+use Rattle.stage_file.proofs.StageLemmas.{lays_only, live_step_of}
 use Rattle.run_model.specs.Run.{Between, Grows, AtRest}
 use Rattle.run_model.proofs.Growing.{onward_part, onward_nothing, onward_same, grows_then}
 use Rattle.aptly_core.specs.Commits.{IsCommitting, Commits}
 use Rattle.aptly_core.specs.Machine.{machine, targets}
 use Rattle.aptly_core.specs.Root.{root_text}
 use Rattle.aptly_core.specs.State.{Valid}
-use Rattle.aptly_core.specs.Store.{root, IsRootOf, Stored, Open, NothingPublic}
+use Rattle.aptly_core.specs.Store.{root, IsRootOf, Open, NothingPublic}
 use Rattle.aptly_core.specs.Values.{StateView}
 
 abbrev pub is_public : Path → Bool

@@ -1,15 +1,11 @@
 -- The machine of the program is lawful.
-use Rattle.std.proofs.Common.{◌≡◌, ◌≢◌, ℕ, suc, ◌<◌, List, [], ◌∷◌, length, Option, Some, None, Bool, true, false, not, IsSome, refl, sym, ◌∙◌, ap, subst, arith, Ordering, Less, Equal, Greater}
-use Rattle.std.specs.Option.{is_some}
-use Rattle.std.specs.Bool.{nat_le, if◌then◌else◌}
-use Rattle.std.specs.Str.{bytes_eq}
-use Rattle.ap_text.specs.Names.{is_name}
+use Rattle.std.proofs.Common.{◌≡◌, ℕ, List, [], Option, refl, sym, ◌∙◌, ap, subst}
 use Rattle.run_model.specs.Run.{Outcome, Lawful}
 use Rattle.aptly_core.specs.declared.command_words.Command.{Command}
 use Rattle.aptly_core.specs.declared.machine_state.Refusal.{Refusal}
-use Rattle.aptly_core.specs.Machine.{machine, Steps, came}
+use Rattle.aptly_core.specs.Machine.{machine, Steps}
 use Rattle.aptly_core.specs.State.{Valid}
-use Rattle.aptly_core.specs.Step.{Step, Came, came_to, refusal_of, seen}
+use Rattle.aptly_core.specs.Step.{Came, came_to, refusal_of}
 use Rattle.aptly_core.specs.Values.{StateView}
 use Rattle.aptly_core.proofs.StepLemmas.{says_some, valid_step}
 

@@ -1,5 +1,5 @@
 -- Commands in turn.
-use Rattle.std.proofs.Common.{◌≡◌, ◌≢◌, ◌⊎◌, inl, inr, ℕ, ◌+◌, ◌<◌, ◌≤◌, List, [], ◌∷◌, ◌++◌, length, drop, get_or, drop-cons, add-one, Option, Some, None, MatchOption, Result, Ok, Err, refl, sym, ◌∙◌, ap, subst, append-nil}
+use Rattle.std.proofs.Common.{◌≡◌, ℕ, ◌+◌, ◌<◌, ◌≤◌, List, [], ◌∷◌, ◌++◌, length, drop, get_or, drop-cons, add-one, Option, Some, None, Ok, Err, refl, sym, ◌∙◌, ap, subst, append-nil}
 use Rattle.std.proofs.Math.ListN.{drop_of_length-le}
 use Rattle.ap_host.specs.declared.host.Op.{Op}
 use Rattle.ap_host.specs.Disk.{Log, extended, said}
@@ -16,7 +16,7 @@ use Rattle.aptly_core.specs.declared.status.Status.{Status}
 use Rattle.aptly_core.specs.declared.status.Status.TheVariants as statuses
 use Rattle.aptly_core.specs.Machine.{machine, Steps, came, IsWork}
 use Rattle.aptly_core.specs.Replies.{refusal_line}
-use Rattle.aptly_core.specs.Runs.{RunsOne, RunsList, RanTo, EndsWith, ComesTo, Turns, TurnComes, TurnRan, IsTurnEnd, SaysRefusal, next_of_done, status_of_fault}
+use Rattle.aptly_core.specs.Runs.{RunsOne, RunsList, RanTo, EndsWith, ComesTo, Turns, TurnComes, TurnRan, IsTurnEnd, next_of_done, status_of_fault}
 use Rattle.aptly_core.specs.State.{Valid}
 use Rattle.aptly_core.specs.Step.{Came, came_to, refusal_of}
 use Rattle.aptly_core.specs.Values.{StateView}

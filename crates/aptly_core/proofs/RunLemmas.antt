@@ -1,8 +1,7 @@
 -- One command, committed and then said.
-use Rattle.std.proofs.Common.{◌≡◌, ◌≢◌, ◌⊎◌, inl, inr, ℕ, suc, ◌≤◌, Bool, true, false, not, List, [], ◌∷◌, ◌++◌, length, take, drop, Option, Some, None, IsTrue, IsSome, IfSome, IfOk, OnOk, Result, Ok, Err, unwrap_or, refl, sym, ◌∙◌, ap, subst, append_assoc, append-nil, arith, Ordering, Less, Equal, Greater}
+use Rattle.std.proofs.Common.{◌≡◌, ◌≢◌, inl, inr, ℕ, suc, Bool, true, false, not, List, [], ◌∷◌, ◌++◌, length, take, drop, Option, Some, None, IsTrue, IsSome, Result, Err, unwrap_or, refl, sym, ◌∙◌, ap, subst, append-nil, arith, Ordering, Less, Equal, Greater}
 use Rattle.std.specs.Option.{is_some}
 use Rattle.std.specs.Bool.{nat_le, if◌then◌else◌}
-use Rattle.std.specs.List.{find}
 use Rattle.std.specs.Str.{bytes_eq}
 use Rattle.std.proofs.lemmas.List.{take-append-drop}
 use Rattle.ap_text.specs.Names.{is_name}
@@ -31,8 +30,7 @@ use Rattle.aptly_core.specs.Runs.{RunsOne}
 use Rattle.aptly_core.specs.Commits.{IsCommitting, Saves}
 use Rattle.aptly_core.specs.Machine.{machine, Steps, came, IsWork, IsIdle, is_below_one, IsOnce, AreTargets, Sets, Moves, targets}
 use Rattle.aptly_core.specs.State.{repo_cmp, repo_of}
-use Rattle.aptly_core.specs.Step.{Step, Came, came_to, refusal_of, new_repo, changed}
-use Rattle.aptly_core.specs.Store.{root}
+use Rattle.aptly_core.specs.Step.{Came, came_to, refusal_of, new_repo, changed}
 use Rattle.aptly_core.specs.Values.{StateView}
 use Rattle.aptly_core.proofs.AscendingLemmas.{turned}
 use Rattle.aptly_core.proofs.RepoLemmas.{repo_total, is_same}

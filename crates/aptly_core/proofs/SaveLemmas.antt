@@ -1,14 +1,13 @@
 -- A commit where there is a new state.
-use Rattle.std.proofs.Common.{◌≡◌, List, [], Option, Some, None, Result, OnOk, Ok, Err, unwrap_or, inl, refl, sym, ap, subst}
+use Rattle.std.proofs.Common.{◌≡◌, List, [], Option, Some, None, Result, inl, refl, sym, subst}
 use Rattle.ap_host.specs.declared.host.Op.{Op}
 use Rattle.ap_host.specs.declared.host.HostErr.{HostErr}
-use Rattle.ap_host.specs.Disk.{Log, extended}
+use Rattle.ap_host.specs.Disk.{Log}
 use Rattle.ap_host.proofs.DiskLemmas.{extended-none}
 use Rattle.stage_file.proofs.StageLemmas.{on_ok}
-use Rattle.run_model.specs.Run.{AtRest, Grows}
+use Rattle.run_model.specs.Run.{AtRest}
 use Rattle.aptly_core.specs.Commits.{Commits, Saves}
 use Rattle.aptly_core.specs.Machine.{machine}
-use Rattle.aptly_core.specs.State.{Valid}
 use Rattle.aptly_core.specs.Values.{StateView}
 use Rattle.aptly_core.proofs.CommitLemmas.{rest_holds, nothing_phase}
 

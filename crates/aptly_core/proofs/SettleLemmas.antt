@@ -1,27 +1,26 @@
 -- What a stop within the settling may leave.
-use Rattle.std.proofs.Common.{◌≡◌, ◌≢◌, ◌⊎◌, ◌==◌, ◌&&◌, inl, inr, ℕ, Bool, true, false, List, [], ◌∷◌, ◌++◌, Option, Some, None, IsTrue, IsFalse, MatchBool, Result, Ok, Err, OnOk, nat_eq, slice_index, length, codes, refl, sym, ◌∙◌, ap, subst}
+use Rattle.std.proofs.Common.{◌≡◌, ◌==◌, ◌&&◌, inl, inr, ℕ, Bool, true, false, List, [], ◌∷◌, ◌++◌, IsTrue, MatchBool, Result, Ok, Err, OnOk, nat_eq, slice_index, length, codes, refl, sym, ◌∙◌, ap, subst}
 use Rattle.std.specs.List.{starts_with}
 use Rattle.std.proofs.lemmas.Bool.{eqb-true}
 use Rattle.ap_text.specs.Paths.{is_below}
 use Rattle.ap_host.specs.declared.host.Op.{Op}
 use Rattle.ap_host.specs.declared.host.Op.TheVariants.{Create, Append, Sync, Rename, Remove, Barrier, Say, Claim}
 use Rattle.ap_host.specs.declared.host.HostErr.{HostErr}
-use Rattle.ap_host.specs.Disk.{Path, Content, Files, Log, Disk, disk_of, extended, live_of, Image, Images, said, Durable, Throughout}
+use Rattle.ap_host.specs.Disk.{Path, Content, Log, extended, live_of, said, Durable}
 use Rattle.ap_host.specs.Calls.{Did}
 use Rattle.ap_host.specs.Changes.{EachOp, TouchesOnly, SameExcept}
 use Rattle.ap_host.proofs.DiskLemmas.{extended-append, extended-none}
-use Rattle.ap_host.proofs.ChangeLemmas.{EachOp-append, EachOp-map, same_after}
+use Rattle.ap_host.proofs.ChangeLemmas.{EachOp-map, same_after}
 use Rattle.ap_host.proofs.LegalLemmas.{durable_image}
-use Rattle.stage_file.specs.Stage.{StageState, is_staged, IsInStep, IsMarked, ClearsStaged, Clears, Barriers}
+use Rattle.stage_file.specs.Stage.{StageState, is_staged, IsInStep, IsMarked, ClearsStaged, Barriers}
 use Rattle.stage_file.proofs.StageLemmas.{live_step_of}
 use Rattle.run_model.specs.Run.{Grows, AtRest}
 use Rattle.run_model.proofs.Growing.{grows_then}
-use Rattle.aptly_core.specs.Machine.{machine, IsWork, IsOpening, Sets, targets}
+use Rattle.aptly_core.specs.Machine.{machine, IsWork, targets}
 use Rattle.aptly_core.specs.Opens.{IsSettling, SettlesTo}
-use Rattle.aptly_core.specs.State.{Valid}
-use Rattle.aptly_core.specs.Store.{root, IsRootOf, Stored, Open}
+use Rattle.aptly_core.specs.Store.{root, IsRootOf, Open}
 use Rattle.aptly_core.specs.Values.{StateView}
-use Rattle.aptly_core.proofs.CommitLemmas.{is_public, Holds, HoldsNone, open_along, apart_phase, nothing_phase, barrier_phase, barriers_each}
+use Rattle.aptly_core.proofs.CommitLemmas.{is_public, Holds, open_along, apart_phase, nothing_phase, barrier_phase}
 
 clash : {A : Type 0} → false ≡ true → A
 clash h = absurd (cc)

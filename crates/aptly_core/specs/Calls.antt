@@ -1,7 +1,7 @@
 -- What a whole call did.
-use Rattle.std.specs.Prelude.{◌≡◌, ◌⊎◌, ◌↔◌, ℕ, true, false, List, [], ◌∷◌, ◌++◌, Option, Some, None, Result, OnOk}
+use Rattle.std.specs.Prelude.{◌≡◌, ◌⊎◌, ◌↔◌, ℕ, true, false, List, [], ◌∷◌, Option, Some, None, Result, OnOk}
 use Rattle.ap_host.specs.declared.host.Op.{Op}
-use Rattle.ap_host.specs.declared.host.Op.TheVariants.{Create, Append, Sync, Rename, Remove, Barrier, Say, Claim}
+use Rattle.ap_host.specs.declared.host.Op.TheVariants.{Barrier, Say, Claim}
 use Rattle.ap_host.specs.Disk.{Files, Log, live_of, said}
 use Rattle.ap_host.specs.Changes.{EachOp}
 use Rattle.run_model.specs.Run.{IsFront}

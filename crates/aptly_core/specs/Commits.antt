@@ -1,7 +1,7 @@
 -- What a commit adds to the log.
-use Rattle.std.specs.Prelude.{◌≡◌, ◌⊎◌, ℕ, ◌≤◌, List, [], ◌∷◌, length, Option, Some, None, Result, OnOk, IsTrue, unwrap_or}
+use Rattle.std.specs.Prelude.{◌≡◌, ◌⊎◌, ◌≤◌, List, [], ◌∷◌, length, Option, None, Result, OnOk, IsTrue, unwrap_or}
 use Rattle.ap_host.specs.declared.host.Op.{Op}
-use Rattle.ap_host.specs.declared.host.Op.TheVariants.{Create, Append, Sync, Rename, Remove, Barrier, Say, Claim}
+use Rattle.ap_host.specs.declared.host.Op.TheVariants.{Create, Append, Sync, Rename, Barrier}
 use Rattle.ap_host.specs.declared.host.HostErr.{HostErr}
 use Rattle.ap_host.specs.Disk.{Log, extended, Durable}
 use Rattle.ap_host.specs.Changes.{EachOp}

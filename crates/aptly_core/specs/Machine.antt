@@ -1,5 +1,5 @@
 -- The machine of the program: what files stand for which state, and what the operations of a command keep to.
-use Rattle.std.specs.Prelude.{◌≡◌, ◌⊎◌, ℕ, ◌≤◌, ◌||◌, Bool, List, [], ◌∷◌, length, Option, Some, None, IsTrue, IsSome, IfSome, codes}
+use Rattle.std.specs.Prelude.{◌≡◌, ◌⊎◌, ℕ, ◌≤◌, ◌||◌, Bool, List, [], ◌∷◌, length, Option, None, IsTrue, IsSome, IfSome, codes}
 use Rattle.ap_text.specs.Paths.{is_below}
 use Rattle.ap_host.specs.declared.host.Op.{Op}
 use Rattle.ap_host.specs.declared.host.Op.TheVariants.{Create, Append, Sync, Rename, Remove, Barrier, Say, Claim}

@@ -1,14 +1,14 @@
 -- What the opening of a store adds to the log.
-use Rattle.std.specs.Prelude.{◌≡◌, ◌⊎◌, ◌≢◌, Bool, true, false, List, [], ◌∷◌, ◌++◌, Result, Ok, Err, OnOk, IsTrue}
+use Rattle.std.specs.Prelude.{◌≡◌, ◌⊎◌, Bool, true, false, List, [], ◌∷◌, ◌++◌, Result, Ok, Err, OnOk, IsTrue}
 use Rattle.ap_host.specs.declared.host.Op.{Op}
-use Rattle.ap_host.specs.declared.host.Op.TheVariants.{Create, Append, Sync, Rename, Remove, Barrier, Say, Claim}
+use Rattle.ap_host.specs.declared.host.Op.TheVariants.{Remove, Barrier, Claim}
 use Rattle.ap_host.specs.declared.host.HostErr.{HostErr}
 use Rattle.ap_host.specs.Disk.{Log, extended, live_of, Durable}
 use Rattle.ap_host.specs.Changes.{EachOp}
 use Rattle.run_model.specs.Run.{Grows, AtRest}
 use Rattle.stage_file.specs.Stage.{is_staged}
 use Rattle.aptly_core.specs.declared.catalogue_root.LoadFault.{LoadFault}
-use Rattle.aptly_core.specs.declared.catalogue_root.LoadFault.TheVariants.{Damaged, HostFault, OutOfMemory}
+use Rattle.aptly_core.specs.declared.catalogue_root.LoadFault.TheVariants.{Damaged}
 use Rattle.aptly_core.specs.declared.command_words.Command.{Command}
 use Rattle.aptly_core.specs.declared.machine_state.Refusal.{Refusal}
 use Rattle.aptly_core.specs.declared.status.Damage.{Damage}

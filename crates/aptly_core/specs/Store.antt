@@ -1,5 +1,5 @@
 -- Which files of a store stand for which state.
-use Rattle.std.specs.Prelude.{◌≡◌, ◌⊎◌, ℕ, List, [], Option, Some, None, Result, Ok, Err, IsTrue, codes}
+use Rattle.std.specs.Prelude.{◌≡◌, ◌⊎◌, ℕ, List, [], Some, None, Result, Ok, Err, IsTrue, codes}
 use Rattle.ap_text.specs.Paths.{is_below}
 use Rattle.ap_host.specs.declared.host.HostErr.{HostErr}
 use Rattle.ap_host.specs.declared.host.HostErr.TheVariants.{Failed, OutOfMemory as NoMemory}

@@ -130,59 +130,64 @@ fn root_of_many(alloc: Global, count: usize) -> Result<String, AllocError> {
     Ok(text)
 }
 
+/// The line of the root that is told to be damaged.
+fn damaged_line(status: &Status) -> u64 {
+    match status {
+        Status::Damaged(Damage::Unreadable { path, line }) => {
+            if path.as_str() == "db/root" { *line } else { 0 }
+        }
+        _ => 0,
+    }
+}
+
+#[derive(Drop)]
+struct Answer {
+    code: u8,
+    line: u64,
+    log: String,
+    text: Vec<u8>,
+}
+
+fn answer_of(
+    alloc: Global,
+    words: &str,
+    root: Option<&[u8]>,
+    taken: bool,
+) -> Result<Answer, AllocError> {
+    let mut host = store_of(alloc, root, taken)?;
+    let status = call(alloc, &mut host, words)?;
+    Ok(Answer {
+        code: status.code(),
+        line: damaged_line(&status),
+        log: kinds(alloc, &host)?,
+        text: said(alloc, &host, 0)?,
+    })
+}
+
 #[test]
 fn each_store_has_its_answer(rt: HostRuntime) -> Result<(), Fail> {
     let alloc = rt.alloc();
-    let many = root_of_many(alloc, 10_000)?;
     let rows = [
-        ("repo create local", None, true, 7, "C", ""),
-        (
-            "repo create local",
-            Some("aptly root 0\n"),
-            false,
-            6,
-            "CB",
-            "",
-        ),
-        (
-            "repo create zz",
-            Some(many.as_str()),
-            false,
-            1,
-            "CBS",
-            "ERROR: over the limit of 10000 repos\n",
-        ),
-        (
-            "repo create a/b",
-            None,
-            false,
-            1,
-            "CBS",
-            "ERROR: bad name a/b\n",
-        ),
-        (
-            "repo create",
-            None,
-            false,
-            2,
-            "S",
-            "ERROR: usage at word 2\n",
-        ),
+        ("repo create local", true, 7, "C", ""),
+        ("repo create a/b", false, 1, "CBS", "ERROR: bad name a/b\n"),
+        ("repo create", false, 2, "S", "ERROR: usage at word 2\n"),
     ];
-    for (words, root, taken, code, log, text) in rows {
-        let root: Option<&[u8]> = match root {
-            None => None,
-            Some(root) => Some(root.as_bytes()),
-        };
-        let mut host = store_of(alloc, root, taken)?;
-        let status = call(alloc, &mut host, words)?;
-        assert_eq!(rt; status.code(), code);
-        assert_eq!(rt; kinds(alloc, &host)?.as_str(), log);
-        assert_eq!(rt; said(alloc, &host, 0)?.as_slice(), text.as_bytes());
-        if let Status::Damaged(Damage::Unreadable { path, line }) = status {
-            assert_eq!(rt; path.as_str(), "db/root");
-            assert_eq!(rt; line, 2);
-        }
+    for (words, taken, code, log, text) in rows {
+        let answer = answer_of(alloc, words, None, taken)?;
+        assert_eq!(rt; answer.code, code);
+        assert_eq!(rt; answer.log.as_str(), log);
+        assert_eq!(rt; answer.text.as_slice(), text.as_bytes());
     }
+    let damaged = answer_of(alloc, "repo create local", Some(b"aptly root 0\n"), false)?;
+    assert_eq!(rt; damaged.code, 6);
+    assert_eq!(rt; damaged.line, 2);
+    assert_eq!(rt; damaged.log.as_str(), "CB");
+    let many = root_of_many(alloc, 10_000)?;
+    let full = answer_of(alloc, "repo create zz", Some(many.as_bytes()), false)?;
+    assert_eq!(rt; full.code, 1);
+    assert_eq!(rt;
+        full.text.as_slice(),
+        b"ERROR: over the limit of 10000 repos\n".as_slice()
+    );
     Ok(())
 }

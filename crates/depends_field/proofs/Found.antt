@@ -1,22 +1,20 @@
 -- What was read piece by piece is spelled by the text: from each state, what is left of the text spells the rest.
-use Rattle.std.proofs.Common.{◌≡◌, ◌≢◌, ℕ, ◌<◌, ◌≤◌, ◌+◌, Bool, true, false, not, ◌&&◌, ◌||◌, ◌==◌, cond, List, [], ◌∷◌, ◌++◌, length, take, drop, get_or, Option, Some, None, IsTrue, refl, ap, subst, sym, ◌∙◌, arith, inl, inr, ◌⊎◌, append_assoc, append-nil, codes}
-use Rattle.std.specs.List.{list_all, flat_map, AllZip, prefix_len}
-use Rattle.std.specs.Option.{option_and_then}
+use Rattle.std.proofs.Common.{◌≡◌, ℕ, Bool, true, false, cond, List, [], ◌∷◌, ◌++◌, Option, Some, None, refl, ap, subst, sym, ◌∙◌, inl, inr, ◌⊎◌, append_assoc, codes}
+use Rattle.std.specs.List.{list_all}
 use Rattle.std.specs.Str.{bytes_eq}
 use Rattle.std.proofs.lemmas.Option.{same_Some}
 use Rattle.std.proofs.lemmas.Slice.Eq.{bytes_eq-Decides}
-use Rattle.std.proofs.lemmas.Bool.{false≢true, cases_Bool, and_from, and_parts, cond-true, cond-false}
+use Rattle.std.proofs.lemmas.Bool.{false≢true, and_from}
 use Rattle.std.proofs.lemmas.List.Folds.{list_all-append}
 use Rattle.ap_text.specs.Names.{is_package_name}
 use Rattle.deb_version.specs.declared.order.Relation.{Relation}
 use Rattle.depends_field.specs.declared.alternative.Alternative.{Alternative}
 use Rattle.depends_field.specs.declared.phase.Kind.{Kind}
-use Rattle.depends_field.specs.declared.phase.Kind.TheVariants.{Depends, Provides}
 use Rattle.depends_field.specs.declared.phase.Phase.{Phase}
 use Rattle.depends_field.specs.declared.phase.Phase.TheVariants.{Start, Barred, Named, Colon, Parted, Opened, Compared, Versioned, Closed}
-use Rattle.depends_field.specs.Pieces.{is_blank, IsCut, front, behind, inside_after}
-use Rattle.depends_field.specs.Reading.{Read, is_piece, is_any, is_blanks, is_architecture, relation_of, is_allowed, is_version_word, plain, with_arch, with_relation, rested, named, qualified, compared, compared_by, versioned, advanced, ended}
-use Rattle.depends_field.specs.Groups.{AllBlank, parted_by, QualifierText, Restricts, RestrictionText, AlternativeText, GroupText, PartsText, Groups}
+use Rattle.depends_field.specs.Pieces.{is_blank}
+use Rattle.depends_field.specs.Reading.{is_piece, is_any, is_architecture, relation_of, is_allowed, is_version_word, plain, with_arch, with_relation, rested, named, qualified, compared, compared_by, versioned, advanced, ended}
+use Rattle.depends_field.specs.Groups.{AllBlank, QualifierText, Restricts, RestrictionText, AlternativeText}
 
 -- what completes an alternative behind each phase
 

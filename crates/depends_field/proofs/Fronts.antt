@@ -1,14 +1,10 @@
 -- Pieces that may stand where they stand begin the pieces of a readable text.
-use Rattle.std.proofs.Common.{◌≡◌, ◌≢◌, ℕ, suc, ◌<◌, ◌≤◌, ◌+◌, Bool, true, false, not, ◌&&◌, ◌||◌, ◌==◌, cond, ltb, List, [], ◌∷◌, ◌++◌, length, take, drop, get_or, Option, Some, None, refl, ap, subst, sym, ◌∙◌, arith, inl, inr, ◌⊎◌, append_assoc, append-nil, codes, length-append, length-take-le}
-use Rattle.std.specs.List.{list_all, prefix_len, concat}
-use Rattle.std.specs.Option.{option_and_then}
-use Rattle.std.specs.Str.{bytes_eq}
-use Rattle.std.proofs.lemmas.Option.{same_Some}
-use Rattle.std.proofs.lemmas.List.{take_at, drop_at, take-append-drop, length-drop, get_or-take}
-use Rattle.std.proofs.lemmas.Bool.{false≢true, true≢false, cases_Bool, and_from, and_parts, cond-true, cond-false, ltb-true}
+use Rattle.std.proofs.Common.{◌≡◌, ℕ, suc, ◌<◌, ◌≤◌, ◌+◌, Bool, true, false, ◌&&◌, ◌||◌, ◌==◌, cond, ltb, List, [], ◌∷◌, ◌++◌, length, take, drop, get_or, refl, ap, subst, sym, ◌∙◌, arith, inl, inr, ◌⊎◌, length-append, length-take-le}
+use Rattle.std.specs.List.{list_all, prefix_len}
+use Rattle.std.proofs.lemmas.List.{take_at, drop_at, take-append-drop}
+use Rattle.std.proofs.lemmas.Bool.{cases_Bool, and_from, and_parts, cond-true, cond-false, ltb-true}
 use Rattle.std.proofs.lemmas.Bool.Decides.{nat_tests}
-use Rattle.std.proofs.lemmas.List.Folds.{list_all-append}
-use Rattle.depends_field.specs.Pieces.{is_blank, is_word_byte, operator_len, piece_len, IsCut, front, behind, inside_after}
+use Rattle.depends_field.specs.Pieces.{is_blank, is_word_byte, piece_len, IsCut, front, behind, inside_after}
 use Rattle.depends_field.proofs.Walks.{prefix_len_append}
 use Rattle.depends_field.proofs.Operators.{is_operator_byte}
 use Rattle.depends_field.proofs.Cuts.{piece_len_in}

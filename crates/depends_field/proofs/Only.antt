@@ -1,22 +1,18 @@
 -- What is spelled by the grammar is read so.
-use Rattle.std.proofs.Common.{◌≡◌, ◌≢◌, ℕ, ◌<◌, ◌≤◌, ◌+◌, Bool, true, false, not, ◌&&◌, ◌||◌, ◌==◌, cond, List, [], ◌∷◌, ◌++◌, length, get_or, Option, Some, None, IsTrue, refl, ap, subst, sym, ◌∙◌, arith, inl, inr, ◌⊎◌, append_assoc, append-nil, codes}
-use Rattle.std.specs.List.{list_all, flat_map, AllZip}
-use Rattle.std.proofs.lemmas.Bool.{false≢true, and_from, and_parts, cond-true, cond-false, cases_Bool, false_from_ne_true}
+use Rattle.std.proofs.Common.{◌≡◌, ◌≢◌, ℕ, true, false, List, [], ◌∷◌, ◌++◌, get_or, Option, Some, None, refl, ap, ◌∙◌, arith, inl, inr, append_assoc, codes}
+use Rattle.std.proofs.lemmas.Bool.{and_parts, cond-true, cond-false, false_from_ne_true}
 use Rattle.std.proofs.lemmas.Bool.Decides.{nat_tests}
-use Rattle.std.proofs.lemmas.List.Folds.{list_all-append}
-use Rattle.ap_text.specs.Names.{is_alphanumeric, is_name_byte, is_name, is_package_name}
+use Rattle.ap_text.specs.Names.{is_name_byte, is_name}
 use Rattle.deb_version.specs.declared.order.Relation.{Relation}
 use Rattle.depends_field.specs.declared.alternative.Alternative.{Alternative}
 use Rattle.depends_field.specs.declared.phase.Kind.{Kind}
-use Rattle.depends_field.specs.declared.phase.Kind.TheVariants.{Depends, Provides}
 use Rattle.depends_field.specs.declared.phase.Phase.{Phase}
-use Rattle.depends_field.specs.declared.phase.Phase.TheVariants.{Start, Barred, Named, Colon, Parted, Opened, Compared, Versioned, Closed}
-use Rattle.depends_field.specs.Pieces.{is_blank, is_version_byte, piece_len, IsCut, front, behind, inside_after}
-use Rattle.depends_field.specs.Reading.{Read, start, is_piece, is_blanks, is_any, is_architecture, is_version_word, is_allowed, relation_of, plain, with_arch, with_relation, rested, named, qualified, advanced, ended, is_start, grouped, parted, alternated, barred, with_phase, phased, stepped, run, groups_read, finished}
-use Rattle.depends_field.specs.Groups.{AllBlank, parted_by, QualifierText, Restricts, RestrictionText, AlternativeText, GroupText, PartsText, Groups}
-use Rattle.depends_field.specs.Faults.{IsReading}
+use Rattle.depends_field.specs.declared.phase.Phase.TheVariants.{Named, Colon, Parted, Opened, Compared, Versioned, Closed}
+use Rattle.depends_field.specs.Pieces.{is_blank, is_version_byte}
+use Rattle.depends_field.specs.Reading.{Read, is_any, is_architecture, plain, with_arch, with_relation, rested, qualified, advanced, ended, is_start, with_phase}
+use Rattle.depends_field.specs.Groups.{AllBlank, QualifierText, Restricts}
 use Rattle.depends_field.proofs.Found.{same_bytes}
-use Rattle.depends_field.proofs.Walks.{Walk, walk_on, no_walk, walk_as, some_blanks, walk_blanks, behind_blanks, name_head, walk_name, walk_colon, walk_opening, walk_closing, walk_comma, walk_bar}
+use Rattle.depends_field.proofs.Walks.{Walk, walk_on, no_walk, walk_as, some_blanks, walk_blanks, behind_blanks, walk_name, walk_colon, walk_opening, walk_closing}
 use Rattle.depends_field.proofs.Operators.{is_operator_byte, walk_operator, operator_head, walk_version, version_head}
 
 -- what may follow an alternative

@@ -1,5 +1,5 @@
 -- What is spelled by the grammar is read so, groups and all.
-use Rattle.std.proofs.Common.{◌≡◌, ◌≢◌, ℕ, ◌<◌, ◌≤◌, ◌+◌, Bool, true, false, not, ◌&&◌, ◌||◌, ◌==◌, cond, List, [], ◌∷◌, ◌++◌, length, get_or, Option, Some, None, IsTrue, refl, ap, subst, sym, ◌∙◌, arith, inl, inr, ◌⊎◌, append_assoc, append-nil, codes}
+use Rattle.std.proofs.Common.{◌≡◌, ℕ, true, false, not, ◌==◌, List, [], ◌∷◌, ◌++◌, get_or, Option, Some, None, refl, ap, subst, sym, ◌∙◌, inl, inr, append_assoc, append-nil}
 use Rattle.std.specs.List.{list_all, flat_map, AllZip}
 use Rattle.std.proofs.lemmas.Bool.{and_from, and_parts, cond-true, cond-false}
 use Rattle.std.proofs.lemmas.List.Folds.{list_all-append}
@@ -9,13 +9,13 @@ use Rattle.depends_field.specs.declared.alternative.Alternative.{Alternative}
 use Rattle.depends_field.specs.declared.phase.Kind.{Kind}
 use Rattle.depends_field.specs.declared.phase.Kind.TheVariants.{Depends, Provides}
 use Rattle.depends_field.specs.declared.phase.Phase.{Phase}
-use Rattle.depends_field.specs.declared.phase.Phase.TheVariants.{Start, Barred, Named, Colon, Parted, Opened, Compared, Versioned, Closed}
+use Rattle.depends_field.specs.declared.phase.Phase.TheVariants.{Start, Barred, Named, Closed}
 use Rattle.depends_field.specs.Pieces.{is_blank}
-use Rattle.depends_field.specs.Reading.{Read, start, with_relation, rested, named, advanced, ended, is_start, grouped, parted, alternated, barred, with_phase, run, groups_read, finished}
-use Rattle.depends_field.specs.Groups.{AllBlank, parted_by, QualifierText, Restricts, RestrictionText, AlternativeText, GroupText, PartsText, Groups}
+use Rattle.depends_field.specs.Reading.{Read, with_relation, rested, named, advanced, ended, is_start, grouped, parted, alternated, barred, with_phase, groups_read, finished}
+use Rattle.depends_field.specs.Groups.{AllBlank, parted_by, QualifierText, RestrictionText, AlternativeText, GroupText, PartsText, Groups}
 use Rattle.depends_field.specs.Faults.{IsReading}
-use Rattle.depends_field.proofs.Walks.{Walk, walk_on, no_walk, walk_as, walk_blanks, behind_blanks, name_head, walk_name, walk_comma, walk_bar}
-use Rattle.depends_field.proofs.Only.{IsTail, IsBase, ToBase, base_blanks, blank_not_name, qualifier_walk, restriction_walk}
+use Rattle.depends_field.proofs.Walks.{Walk, walk_on, walk_as, walk_blanks, behind_blanks, name_head, walk_name, walk_comma, walk_bar}
+use Rattle.depends_field.proofs.Only.{IsTail, base_blanks, blank_not_name, qualifier_walk, restriction_walk}
 
 -- a walk to where the alternative may end
 pub record ToEnd (kind : Kind) (s : Read) (phase : Phase) (a : Alternative) (text rest : List ℕ) : Type 0 where

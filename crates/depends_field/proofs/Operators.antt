@@ -1,18 +1,17 @@
 -- Operators and versions in parentheses, as pieces.
-use Rattle.std.proofs.Common.{◌≡◌, ◌≢◌, ℕ, ◌<◌, ◌≤◌, ◌+◌, Bool, true, false, not, ◌&&◌, ◌||◌, ◌==◌, cond, ltb, List, [], ◌∷◌, ◌++◌, length, get_or, Option, Some, None, refl, ap, subst, sym, ◌∙◌, arith, lit<}
+use Rattle.std.proofs.Common.{◌≡◌, ℕ, ◌<◌, Bool, true, false, not, ◌&&◌, ◌||◌, ◌==◌, cond, ltb, List, [], ◌∷◌, ◌++◌, length, get_or, Some, None, refl, ap, subst, sym, ◌∙◌, arith, lit<}
 use Rattle.std.specs.List.{list_all}
 use Rattle.std.specs.Str.{bytes_eq}
-use Rattle.std.proofs.lemmas.Bool.{cases_Bool, and_parts, cond-true, cond-false}
+use Rattle.std.proofs.lemmas.Bool.{and_parts, cond-true}
 use Rattle.std.proofs.lemmas.Bool.Decides.{nat_tests}
 use Rattle.deb_version.specs.declared.order.Relation.{Relation}
 use Rattle.deb_version.specs.declared.order.Relation.TheVariants.{Earlier, EarlierEqual, Equal, LaterEqual, Later}
-use Rattle.deb_version.specs.VersionText.{is_version, fault_of, epoch_of, start_of, upstream_in, revision_in, is_epoch, bad_in_upstream, bad_in_revision, is_revision_byte, is_upstream_byte}
+use Rattle.deb_version.specs.VersionText.{is_version, fault_of, epoch_of, start_of, upstream_in, revision_in, is_epoch}
 use Rattle.depends_field.specs.declared.alternative.Alternative.{Alternative}
 use Rattle.depends_field.specs.declared.phase.Kind.{Kind}
-use Rattle.depends_field.specs.declared.phase.Phase.{Phase}
 use Rattle.depends_field.specs.declared.phase.Phase.TheVariants.{Opened, Compared, Versioned}
-use Rattle.depends_field.specs.Pieces.{is_blank, is_version_byte, is_word_byte, operator_len, piece_len, inside_after}
-use Rattle.depends_field.specs.Reading.{Read, is_piece, is_blanks, relation_of, is_allowed, is_version_word, with_relation, compared, compared_by, versioned, advanced, with_phase, phased, stepped}
+use Rattle.depends_field.specs.Pieces.{is_blank, is_version_byte, piece_len, inside_after}
+use Rattle.depends_field.specs.Reading.{Read, is_piece, is_blanks, relation_of, is_allowed, is_version_word, with_relation, compared, compared_by, versioned, with_phase, phased}
 use Rattle.depends_field.proofs.Found.{same_bytes}
 use Rattle.depends_field.proofs.Walks.{Walk, one_walk, other_step, other_piece, word_len}
 

@@ -1,10 +1,9 @@
 -- The place of a fault is that of the grammar.
-use Rattle.std.proofs.Common.{◌≡◌, ◌≢◌, ℕ, suc, ◌<◌, ◌≤◌, ◌+◌, Bool, true, false, not, ◌&&◌, ◌||◌, ◌==◌, cond, List, [], ◌∷◌, ◌++◌, length, get_or, Option, Some, None, refl, ap, subst, sym, ◌∙◌, arith, inl, inr, ◌⊎◌, append-nil, codes}
+use Rattle.std.proofs.Common.{◌≡◌, ℕ, suc, ◌<◌, Bool, true, false, cond, List, [], ◌∷◌, ◌++◌, length, get_or, Option, Some, None, refl, ap, subst, sym, ◌∙◌, arith, inl, inr, codes}
 use Rattle.std.specs.List.{list_all}
-use Rattle.std.specs.Option.{option_and_then}
 use Rattle.std.proofs.lemmas.Option.{same_Some}
-use Rattle.std.proofs.lemmas.Bool.{false≢true, true≢false, cases_Bool, cond-true, cond-false, and_parts}
-use Rattle.ap_text.specs.Names.{is_name, is_package_name}
+use Rattle.std.proofs.lemmas.Bool.{false≢true, cases_Bool}
+use Rattle.ap_text.specs.Names.{is_package_name}
 use Rattle.deb_version.specs.declared.order.Relation.{Relation}
 use Rattle.deb_version.specs.declared.order.Relation.TheVariants.{Equal}
 use Rattle.deb_version.specs.VersionText.{is_version, fault_of, epoch_of, start_of, upstream_in, revision_in, is_epoch, bad_in_upstream, bad_in_revision, is_revision_byte, is_upstream_byte}
@@ -16,15 +15,15 @@ use Rattle.depends_field.specs.declared.phase.Phase.{Phase}
 use Rattle.depends_field.specs.declared.phase.Phase.TheVariants.{Start, Barred, Named, Colon, Parted, Opened, Compared, Versioned, Closed}
 use Rattle.depends_field.specs.Pieces.{is_blank, is_word_byte, piece_len, IsCut, front, behind, inside_after}
 use Rattle.depends_field.specs.Reading.{Read, start, is_piece, is_any, is_blanks, is_architecture, is_version_word, is_allowed, relation_of, plain, with_arch, with_relation, rested, named, qualified, compared, compared_by, versioned, advanced, ended, is_start, grouped, parted, alternated, barred, with_phase, phased, stepped, run, finished}
-use Rattle.depends_field.specs.Groups.{AllBlank, Groups}
-use Rattle.depends_field.specs.Faults.{IsReading, IsFirstUnfit}
+use Rattle.depends_field.specs.Groups.{AllBlank}
+use Rattle.depends_field.specs.Faults.{IsFirstUnfit}
 use Rattle.depends_field.specs.Places.{BeginsReadable, IsPlace}
 use Rattle.depends_field.proofs.Found.{same_bytes}
 use Rattle.depends_field.proofs.FoundGroups.{blank_front, run_first, groups_from_reading}
 use Rattle.depends_field.proofs.Walks.{Walk, walk_on, no_walk, cut_append, run_append, walk_blanks, walk_name, walk_closing, colon_len}
-use Rattle.depends_field.proofs.Operators.{is_operator_byte, walk_operator, walk_version}
+use Rattle.depends_field.proofs.Operators.{walk_operator, walk_version}
 use Rattle.depends_field.proofs.Only.{any_is}
-use Rattle.depends_field.proofs.OnlyGroups.{parted_is, start_parted, finish_from_parted}
+use Rattle.depends_field.proofs.OnlyGroups.{parted_is, finish_from_parted}
 use Rattle.depends_field.proofs.Unique.{no_front, runs_of_pieces, unreadable_from}
 use Rattle.depends_field.proofs.Fronts.{MayFollow, follows, piece_of, cut_one, cut_again}
 use Rattle.depends_field.proofs.Completions.{is_inside, step_turn}

@@ -1,12 +1,12 @@
 -- What the readers answer, by what their text spells.
-use Rattle.std.proofs.Common.{◌≡◌, ℕ, List, [], ◌∷◌, ◌++◌, Option, Result, Ok, Err, map, refl, ap, subst, sym, ◌∙◌, inl, inr, MatchResult, IfOk, IfErr, Vec, Global}
+use Rattle.std.proofs.Common.{◌≡◌, ℕ, List, [], ◌∷◌, Result, Ok, Err, map, refl, ap, subst, sym, ◌∙◌, inl, inr, MatchResult, IfOk, IfErr}
 use Rattle.std.specs.List.{flat_map, AllZip}
 use Rattle.depends_field.specs.declared.alternative.Alternative.{Alternative}
 use Rattle.depends_field.specs.declared.fault.DependsFault.{DependsFault}
 use Rattle.depends_field.specs.declared.fault.DependsFault.TheVariants.{At, OutOfMemory}
 use Rattle.depends_field.specs.declared.phase.Kind.{Kind}
 use Rattle.depends_field.specs.declared.phase.Kind.TheVariants.{Provides}
-use Rattle.depends_field.specs.Groups.{AlternativeText, GroupText, PartsText, Groups}
+use Rattle.depends_field.specs.Groups.{AlternativeText, PartsText, Groups}
 use Rattle.depends_field.specs.Faults.{IsReading, IsFaultOf}
 use Rattle.depends_field.specs.Places.{IsFaultAt}
 use Rattle.depends_field.proofs.FoundGroups.{groups_from_reading}

@@ -1,17 +1,17 @@
 -- Walks over a text, piece by piece.
-use Rattle.std.proofs.Common.{◌≡◌, ◌≢◌, ℕ, suc, ◌<◌, ◌≤◌, ◌+◌, Bool, true, false, not, ◌&&◌, ◌||◌, ◌==◌, cond, ltb, eqb, List, [], ◌∷◌, ◌++◌, length, take, drop, get_or, Option, Some, None, IsTrue, refl, ap, subst, sym, ◌∙◌, arith, inl, inr, ◌⊎◌, append_assoc, append-nil, lit<, length-append}
+use Rattle.std.proofs.Common.{◌≡◌, ℕ, ◌<◌, ◌+◌, Bool, true, false, not, List, [], ◌∷◌, ◌++◌, length, take, drop, get_or, Option, Some, None, refl, ap, subst, sym, ◌∙◌, arith, lit<, length-append}
 use Rattle.std.specs.List.{list_all, prefix_len}
 use Rattle.std.specs.Option.{option_and_then}
 use Rattle.std.specs.Str.{bytes_eq}
 use Rattle.std.proofs.lemmas.Option.{same_Some}
 use Rattle.std.proofs.lemmas.List.{take_at, drop_at}
 use Rattle.std.proofs.lemmas.Slice.Eq.{bytes_eq-Decides}
-use Rattle.std.proofs.lemmas.Bool.{false≢true, cases_Bool, and_from, and_parts, cond-true, cond-false, false_from_ne_true}
+use Rattle.std.proofs.lemmas.Bool.{false≢true, and_parts, cond-true, cond-false, false_from_ne_true}
 use Rattle.std.proofs.lemmas.Bool.Decides.{nat_tests}
-use Rattle.ap_text.specs.Names.{is_alphanumeric, is_name_byte, is_name, begins_alphanumeric, is_package_name}
+use Rattle.ap_text.specs.Names.{is_alphanumeric, is_name_byte, is_name, begins_alphanumeric}
 use Rattle.depends_field.specs.declared.phase.Kind.{Kind}
 use Rattle.depends_field.specs.declared.phase.Phase.{Phase}
-use Rattle.depends_field.specs.Pieces.{is_blank, is_version_byte, is_word_byte, operator_len, piece_len, IsCut, front, behind, inside_after}
+use Rattle.depends_field.specs.Pieces.{is_blank, is_word_byte, piece_len, IsCut, behind, inside_after}
 use Rattle.depends_field.specs.Reading.{Read, is_piece, is_blanks, rested, advanced, with_phase, phased, stepped, run, parted, barred}
 use Rattle.depends_field.specs.Groups.{AllBlank}
 

@@ -1,5 +1,5 @@
 -- What reading from the left gives: groups, or the place of the first piece that can't stand where it stands.
-use Rattle.std.specs.Prelude.{◌≡◌, ◌<◌, ◌+◌, ℕ, Bool, false, List, [], length, Option, Some, None}
+use Rattle.std.specs.Prelude.{◌≡◌, ◌<◌, ◌+◌, ℕ, Bool, false, List, [], length, Some, None}
 use Rattle.depends_field.specs.declared.alternative.Alternative.{Alternative}
 use Rattle.depends_field.specs.declared.fault.DependsFault.{DependsFault}
 use Rattle.depends_field.specs.declared.fault.DependsFault.TheVariants.{At, OutOfMemory}

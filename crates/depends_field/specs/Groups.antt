@@ -7,7 +7,7 @@ use Rattle.depends_field.specs.declared.alternative.Alternative.{Alternative}
 use Rattle.depends_field.specs.declared.phase.Kind.{Kind}
 use Rattle.depends_field.specs.declared.phase.Kind.TheVariants.{Depends, Provides}
 use Rattle.depends_field.specs.Pieces.{is_blank}
-use Rattle.depends_field.specs.Reading.{is_any, is_architecture, relation_of, is_allowed, is_version_word}
+use Rattle.depends_field.specs.Reading.{is_architecture, relation_of, is_allowed, is_version_word}
 
 -- spaces, tabs and line ends alone, or nothing
 abbrev pub AllBlank : List ℕ → Type 0

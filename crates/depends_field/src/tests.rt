@@ -76,25 +76,30 @@ fn fields_have_groups_or_the_place_of_a_fault(rt: HostRuntime) -> Result<(), Fai
     Ok(())
 }
 
+/// The first alternative of a field: its package, its architecture and its relation.
+const FIRST: [(&str, &str, Option<&str>, Option<Relation>); 4] = [
+    ("aa (<1) | bb", "aa", None, Some(Relation::EarlierEqual)),
+    ("bb:any, cc", "bb", None, None),
+    ("cc:amd64(>>2)", "cc", Some("amd64"), Some(Relation::Later)),
+    ("dd:all", "dd", Some("all"), None),
+];
+
+fn relation_in(alternative: &Alternative) -> Option<Relation> {
+    match &alternative.relation {
+        Some((relation, _)) => Some(*relation),
+        None => None,
+    }
+}
+
 #[test]
 fn alternatives_keep_what_was_written(rt: HostRuntime) -> Result<(), Fail> {
-    let groups = read_depends(rt.alloc(), "aa (<1) | bb:any, cc:amd64").map_err(|_| "unread")?;
-    assert_eq!(rt; groups.len(), 2);
-    let first = groups[0].copy(rt.alloc())?;
-    assert_eq!(rt; first.alternatives.len(), 2);
-    let earlier = first.alternatives[0].copy(rt.alloc())?;
-    assert_eq!(rt; earlier.name.as_str(), "aa");
-    match earlier.relation {
-        Some((relation, version)) => {
-            assert!(rt; relation == Relation::EarlierEqual && version.as_str() == "1");
-        }
-        None => assert!(rt; false),
-    }
-    assert!(rt; first.alternatives[1].arch.is_none());
-    assert_eq!(rt; groups[1].alternatives.len(), 1);
-    match &groups[1].alternatives[0].arch {
-        Some(arch) => assert_eq!(rt; arch.as_str(), "amd64"),
-        None => assert!(rt; false),
+    for (text, name, arch, relation) in FIRST {
+        let groups = read_depends(rt.alloc(), text).map_err(|_| "unread")?;
+        let group = groups.first().ok_or("no group")?.copy(rt.alloc())?;
+        let alternative = group.alternatives.first().ok_or("none")?.copy(rt.alloc())?;
+        assert_eq!(rt; alternative.name.as_str(), name);
+        assert_eq!(rt; alternative.arch.as_ref().map(|arch| arch.as_str()), arch);
+        assert_eq!(rt; relation_in(&alternative), relation);
     }
     Ok(())
 }

@@ -1,5 +1,5 @@
 -- The number that decimal digits write.
-use Rattle.std.proofs.Common.{◌≡◌, ℕ, ◌<◌, ◌≤◌, ◌^◌, Bool, true, false, not, ◌&&◌, ◌||◌, ◌==◌, cond, nat_lt, nat_eq, List, [], ◌∷◌, length, drop, get_or, Option, Some, None, IsTrue, refl, ap, sym, ◌∙◌, arith, subst, inl, inr, Result, Ok, Err}
+use Rattle.std.proofs.Common.{◌≡◌, ℕ, ◌<◌, ◌^◌, Bool, true, false, ◌&&◌, ◌==◌, cond, nat_lt, List, [], ◌∷◌, length, drop, Option, IsTrue, refl, ap, sym, ◌∙◌, arith, subst, inl, inr, Result, Ok, Err}
 use Rattle.std.specs.Bool.{IsFalse}
 use Rattle.std.specs.List.{list_all}
 use Rattle.std.specs.Option.{MatchOption}
@@ -56,7 +56,7 @@ answer text (Ok n) h d =
 answer text (Err f) h d =
     let e = plain text (digits_of text d) in
     elim (cases_lt (digits_value 10 text) (2 ^ 64)) [
-      inl lt ↦ absurd (h (subst (λ (t : List ℕ). (0 < length t) × AllDigits 10 t) (sym e) (some_digit text d, all_digits_are text (digits_of text d)), subst (λ (t : List ℕ). digits_value 10 t < 2 ^ 64) (sym e) lt))
+      | inl lt ↦ absurd (h (subst (λ (t : List ℕ). (0 < length t) × AllDigits 10 t) (sym e) (some_digit text d, all_digits_are text (digits_of text d)), subst (λ (t : List ℕ). digits_value 10 t < 2 ^ 64) (sym e) lt))
       | inr ge ↦ right_false (is_decimal text) (nat_lt (digits_value 10 text) (2 ^ 64)) (le-ltb _ _ ge)
     ]
 

@@ -1,12 +1,9 @@
 -- A stanza without the fields that speak of the file.
-use Rattle.std.proofs.Common.{◌≡◌, ℕ, Bool, true, false, not, ◌&&◌, ◌||◌, cond, List, [], ◌∷◌, map, codes, Option, Some, None, refl, ap, sym, ◌∙◌, arith}
-use Rattle.std.specs.List.{filter, find}
-use Rattle.std.specs.Char.{to_ascii_lowercase}
-use Rattle.std.specs.Str.{bytes_eq}
-use Rattle.std.specs.Option.{option_map}
+use Rattle.std.proofs.Common.{◌≡◌, ℕ, Bool, true, false, not, ◌&&◌, ◌||◌, cond, List, [], ◌∷◌, codes, refl, ap, sym, ◌∙◌}
+use Rattle.std.specs.List.{filter}
 use Rattle.std.proofs.lemmas.List.Elements.{filter_agree}
 use Rattle.control_stanza.specs.declared.stanza.Field.{Field}
-use Rattle.control_stanza.specs.Fields.{same_name, value_of, without_name}
+use Rattle.control_stanza.specs.Fields.{same_name, without_name}
 use Rattle.package_core.specs.Fields.{is_of_file, own_fields}
 
 filter_step : {X : Type 0} (p q : X → Bool) (x : X) (xs : List X) (b c : Bool) → b ≡ q x → c ≡ p x → filter p (filter q xs) ≡ filter (λ y. q y && p y) xs → filter p (cond b (x ∷ filter q xs) (filter q xs)) ≡ cond (b && c) (x ∷ filter (λ y. q y && p y) xs) (filter (λ y. q y && p y) xs)

@@ -13,12 +13,12 @@ use Rattle.control_stanza.specs.Fields.{same_name, value_of, is_stanza}
 use Rattle.deb_version.specs.VersionText.{is_version}
 use Rattle.package_core.specs.declared.package.Package.{Package}
 use Rattle.package_core.specs.declared.fault.Required.{Required}
-use Rattle.package_core.specs.declared.fault.Required.TheVariants.{NameField, VersionField, ArchitectureField, FilenameField, SizeField, Sha256Field}
+use Rattle.package_core.specs.declared.fault.Required.TheVariants.{NameField, VersionField, ArchitectureField, FilenameField}
 use Rattle.package_core.specs.declared.fault.PackageFault.{PackageFault}
 use Rattle.package_core.specs.declared.fault.PackageFault.TheVariants.{Missing, BadName, BadVersion, BadArchitecture, BadSource, BadPath}
 use Rattle.package_core.specs.Source.{is_source}
 use Rattle.package_core.specs.Fields.{text_in, is_other, is_of_file, own_fields, is_architecture, is_file_path, without_dots, last_segment}
-use Rattle.package_core.specs.Faults.{field_name, first_missing, bad_identity, bad_path, bad_said, fault_of}
+use Rattle.package_core.specs.Faults.{first_missing, bad_identity, bad_path, bad_said, fault_of}
 use Rattle.package_core.specs.Card.{IsPackage, card_of, path_in}
 use Rattle.std.proofs.lemmas.Bool.Decides.{nat_tests}
 use Rattle.package_core.proofs.OwnLemmas.{filter-filter}

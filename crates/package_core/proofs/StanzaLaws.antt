@@ -1,9 +1,8 @@
 -- Stanzas with one text are one.
-use Rattle.std.proofs.Common.{◌≡◌, ◌≢◌, ℕ, Bool, true, false, List, [], ◌∷◌, ◌++◌, length, Option, None, Result, Ok, Err, refl, ap, sym, ◌∙◌, arith}
+use Rattle.std.proofs.Common.{◌≡◌, ℕ, true, List, [], ◌∷◌, ◌++◌, None, Result, Ok, refl, ap, sym}
 use Rattle.control_stanza.specs.declared.stanza.Field.{Field}
 use Rattle.control_stanza.specs.Lines.{lines_of}
 use Rattle.control_stanza.specs.Fields.{is_stanza}
-use Rattle.control_stanza.specs.Spelled.{Stanzas}
 use Rattle.control_stanza.specs.Reading.{stanzas_from}
 use Rattle.control_stanza.specs.Written.{stanza_text, field_text}
 use Rattle.control_stanza.proofs.WriteLemmas.{text_reads}

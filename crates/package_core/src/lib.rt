@@ -16,3 +16,6 @@ pub use fault::{CompleteFault, PackageFault, Required};
 pub use laws::{equal_packages_are_twins, package_order_is_total, triples_begin_the_order};
 pub use order::{compare_packages, has_same_triple};
 pub use package::Package;
+
+#[cfg(test)]
+mod tests;

@@ -43,10 +43,7 @@ impl Package {
     /// a decimal number below 2^64 without leading zeros, and `SHA256`, `SHA1` and `MD5sum`, of which the last two may be
     /// absent, are digests in hexadecimal digits of either case (Debian Policy 5.3, and the Packages index of the Debian
     /// repository format). The first fault in the order of [`PackageFault`] is told.
-    pub fn from_stanza(
-        alloc: Global,
-        stanza: &Stanza,
-    ) -> Result<(Package, SafePath), PackageFault>
+    pub fn from_stanza(alloc: Global, stanza: &Stanza) -> Result<(Package, SafePath), PackageFault>
         ensures value { IfOk result (λ made. (made.0 ≡ card_of stanza.now) × (made.1 ≡ path_in stanza.now)) }
         ensures package { IfOk result (λ made. IsPackage made.0) }
         ensures good { IfOk result (λ made. fault_of stanza.now ≡ None) }
@@ -102,7 +99,12 @@ impl Package {
     pub fn triple(&self, alloc: Global) -> Result<Text, AllocError>
         ensures { IfOk result (λ text. text ≡ triple_of self.now) }
     {
-        let text = format!(in alloc; "{}_{}_{}", self.name.as_str(), self.version.as_str(), self.arch.as_str())?;
+        let text = format!(in alloc;
+            "{}_{}_{}",
+            self.name.as_str(),
+            self.version.as_str(),
+            self.arch.as_str()
+        )?;
         Text::new(alloc, text.as_str())
     }
 

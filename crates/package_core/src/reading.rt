@@ -112,11 +112,7 @@ pub(crate) struct Identity {
 }
 
 #[tactic(auto, unfolding(crate::specs::Faults::bad_identity))]
-fn read_identity(
-    alloc: Global,
-    stanza: &Stanza,
-    texts: Texts<'_>,
-) -> Result<Identity, PackageFault>
+fn read_identity(alloc: Global, stanza: &Stanza, texts: Texts<'_>) -> Result<Identity, PackageFault>
     requires { HasTexts stanza.now texts }
     ensures value { IfOk result (λ made. (made.name ≡ texts.entry.name.now) × (made.version ≡ texts.entry.version.now) × (made.arch ≡ texts.entry.arch.now)) }
     ensures good { IfOk result (λ made. bad_identity stanza.now ≡ None) }

@@ -1,14 +1,11 @@
-use Rattle.std.proofs.Common.{◌≡◌, List, ℕ, [], ◌++◌, Bool, true, inl, Result, Ok, Err, refl, sym, ◌∙◌, ap, subst}
+use Rattle.std.proofs.Common.{List, ℕ, [], ◌++◌, inl, Result, Ok, refl, ◌∙◌, ap, subst}
 use Rattle.std.proofs.lemmas.Result.{err_from_is_err_and}
 use Rattle.ap_host.specs.declared.host.HostErr.{HostErr}
-use Rattle.ap_host.specs.Disk.{Path, Log, extended}
-use Rattle.ap_host.specs.Changes.{EachOp, GoesOn}
+use Rattle.ap_host.specs.Disk.{Path, extended}
+use Rattle.ap_host.specs.Changes.{GoesOn}
 use Rattle.ap_host.proofs.ChangeLemmas.{GoesOn-then, GoesOn-map, GoesOn-none, EachOp-append}
 use Rattle.stage_file.specs.Stage.{StageState, stage_path, Lays, Places}
-use Rattle.run_model.proofs.Says.{grows_none}
 use Rattle.aptly_core.specs.Commits.{IsCommitting}
-use Rattle.aptly_core.specs.Machine.{machine}
-use Rattle.aptly_core.specs.Root.{root_text}
 use Rattle.aptly_core.specs.Store.{root}
 use Rattle.aptly_core.proofs.CommitLemmas.{laid_so, setting, set_so, barred, committed, committed_rest, lays_committing, lays_target, lay_phase, rest_holds, rest_valid, rename_committing, rename_sets, barriers_each, barriers_target, sets_then, sets_before, commits_err, nothing_phase, Set}
 use Rattle.aptly_core.proofs.catalogue_root.commit.Goals as goal

@@ -1,5 +1,4 @@
-use Rattle.std.proofs.Common.{◌≡◌, List, [], Option, Result, Ok, Err, refl, subst}
-use Rattle.ap_host.specs.declared.host.Op.{Op}
+use Rattle.std.proofs.Common.{◌≡◌, [], Option, Ok, Err, refl, subst}
 use Rattle.ap_host.specs.Disk.{Log, live_of}
 use Rattle.ap_host.specs.Changes.{GoesOn}
 use Rattle.ap_host.proofs.ChangeLemmas.{GoesOn-map, GoesOn-none, GoesOn-given}

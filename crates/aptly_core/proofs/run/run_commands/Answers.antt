@@ -1,6 +1,4 @@
-use Rattle.std.proofs.Common.{◌≡◌, Bool, true, false, List, ◌++◌, Result, Ok, Err, sym, ap, subst}
-use Rattle.ap_host.specs.declared.host.Op.{Op}
-use Rattle.ap_host.specs.declared.host.HostErr.{HostErr}
+use Rattle.std.proofs.Common.{Bool, Ok, subst}
 use Rattle.ap_host.proofs.ChangeLemmas.{GoesOn-map, GoesOn-then}
 use Rattle.aptly_core.specs.declared.status.Status.TheVariants.{HostFault, OutOfMemory}
 use Rattle.aptly_core.specs.Opens.{Enters}

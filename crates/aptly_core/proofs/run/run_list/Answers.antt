@@ -1,4 +1,4 @@
-use Rattle.std.proofs.Common.{◌≡◌, List, Result, Ok, Err, refl, sym, ap, subst, rules, arith}
+use Rattle.std.proofs.Common.{refl, arith}
 use Rattle.ap_host.proofs.ChangeLemmas.{GoesOn-map, GoesOn-then, GoesOn-none}
 use Rattle.aptly_core.proofs.ListLemmas.{comes_first, runs_first, comes_more, comes_end, runs_more, runs_end, comes_all, runs_all}
 use Rattle.aptly_core.proofs.run.run_list.Goals as goal

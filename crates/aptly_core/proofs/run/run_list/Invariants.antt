@@ -1,12 +1,5 @@
-use Rattle.std.proofs.Common.{◌≡◌, ◌≤◌, ◌++◌, List, Option, None, drop}
-use Rattle.ap_host.specs.declared.host.Op.{Op}
-use Rattle.ap_host.specs.Changes.{EachOp, GoesOn}
-use Rattle.ap_host.specs.Disk.{extended}
-use Rattle.run_model.specs.Run.{Outcome, AtRest, Ran, Runs, EndsAs}
-use Rattle.aptly_core.specs.declared.machine_state.Refusal.{Refusal}
-use Rattle.aptly_core.specs.Machine.{machine, IsWork}
-use Rattle.aptly_core.specs.State.{Valid}
-use Rattle.aptly_core.specs.Values.{StateView}
+use Rattle.std.proofs.Common.{◌≤◌}
+use Rattle.ap_host.specs.Changes.{GoesOn}
 use Rattle.aptly_core.proofs.ListLemmas.{ComesFrom, RunsFrom}
 use Rattle.aptly_core.proofs.run.run_list.Given as goal
 

@@ -1,7 +1,6 @@
-use Rattle.std.proofs.Common.{◌≡◌, List, ℕ, [], ◌∷◌, ◌++◌, Option, Some, None, Result, Ok, Err, unwrap_or, refl, sym, ◌∙◌, ap, subst}
+use Rattle.std.proofs.Common.{List, ℕ, [], ◌∷◌, ◌++◌, None, Ok, unwrap_or, refl, sym, ◌∙◌, subst}
 use Rattle.std.proofs.lemmas.Result.{err_from_is_err_and}
 use Rattle.ap_host.specs.declared.host.Op.TheVariants.{Say}
-use Rattle.ap_host.specs.Disk.{Log, extended}
 use Rattle.ap_host.specs.Calls.{Did}
 use Rattle.ap_host.proofs.ChangeLemmas.{does, GoesOn-map, GoesOn-then, GoesOn-none}
 use Rattle.run_model.proofs.Joins.{ran_nothing}

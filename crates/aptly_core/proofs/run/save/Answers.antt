@@ -1,10 +1,5 @@
-use Rattle.std.proofs.Common.{◌≡◌, List, [], Some, None, inl, refl, sym, ap, subst}
-use Rattle.ap_host.specs.Disk.{Log, extended}
+use Rattle.std.proofs.Common.{refl}
 use Rattle.ap_host.proofs.ChangeLemmas.{GoesOn-map, GoesOn-none}
-use Rattle.ap_host.proofs.DiskLemmas.{extended-none}
-use Rattle.run_model.specs.Run.{AtRest}
-use Rattle.aptly_core.specs.Machine.{machine}
-use Rattle.aptly_core.specs.Values.{StateView}
 use Rattle.aptly_core.proofs.SaveLemmas.{saves_none, saves_some}
 use Rattle.aptly_core.proofs.run.save.Goals as goal
 

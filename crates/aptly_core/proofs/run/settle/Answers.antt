@@ -1,6 +1,5 @@
-use Rattle.std.proofs.Common.{◌≡◌, List, ◌++◌, Result, Ok, Err, refl, sym, subst}
 use Rattle.std.proofs.lemmas.Result.{err_from_is_err_and}
-use Rattle.ap_host.specs.Disk.{Log, extended}
+use Rattle.ap_host.specs.Disk.{extended}
 use Rattle.ap_host.proofs.ChangeLemmas.{EachOp-append, GoesOn-map, GoesOn-then}
 use Rattle.aptly_core.specs.Opens.{IsSettling}
 use Rattle.aptly_core.proofs.CommitLemmas.{barriers_each}

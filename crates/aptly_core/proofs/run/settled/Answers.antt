@@ -1,5 +1,4 @@
 use Rattle.ap_host.proofs.ChangeLemmas.{GoesOn-map}
-use Rattle.aptly_core.specs.Opens.{SettlesTo}
 use Rattle.aptly_core.proofs.run.settled.Goals as goal
 
 pub returns-clause-log : goal.returns-clause-log

@@ -1,4 +1,3 @@
-use Rattle.std.proofs.Common.{◌≡◌, Result, Ok, Err, sym, ap, subst}
 use Rattle.ap_host.proofs.ChangeLemmas.{GoesOn-map}
 use Rattle.aptly_core.specs.declared.status.Status.TheVariants.{HostFault, OutOfMemory}
 use Rattle.aptly_core.proofs.CallLemmas.{tells_usage, tells_other}

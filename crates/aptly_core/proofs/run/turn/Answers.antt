@@ -1,4 +1,4 @@
-use Rattle.std.proofs.Common.{◌≡◌, List, Result, Ok, Err, refl, sym, ap, subst}
+use Rattle.std.proofs.Common.{Result, Err, sym, subst}
 use Rattle.ap_host.proofs.ChangeLemmas.{GoesOn-map}
 use Rattle.aptly_core.specs.Runs.{Turns, TurnComes}
 use Rattle.aptly_core.specs.declared.status.Status.{Status}

@@ -1,4 +1,4 @@
-use Rattle.std.proofs.Common.{arith, sym, ap, ◌∙◌, length, length-drop}
+use Rattle.std.proofs.Common.{arith, sym, ◌∙◌}
 use Rattle.std.proofs.lemmas.List.{take_rest}
 use Rattle.depends_field.proofs.Cuts.{one_piece_on}
 use Rattle.depends_field.proofs.read.read_pieces.Goals as goal

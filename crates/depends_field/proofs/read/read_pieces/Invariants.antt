@@ -1,4 +1,4 @@
-use Rattle.std.proofs.Common.{◌≡◌, ℕ, ◌≤◌, ◌-◌, List, Some, Bool, false, length, drop}
+use Rattle.std.proofs.Common.{◌≡◌, ℕ, ◌≤◌, ◌-◌, List, Some, false, length, drop}
 use Rattle.depends_field.specs.Pieces.{IsCut}
 use Rattle.depends_field.specs.Reading.{start, run}
 use Rattle.depends_field.proofs.read.read_pieces.Given as goal

@@ -1,7 +1,4 @@
 use Rattle.std.proofs.Common.{rules, sym, ◌∙◌, Some, None}
-use denote.Ref.{Bor}
-use Rattle.std.specs.Option.{MatchOption}
-use Rattle.package_core.specs.Fields.{without_dots}
 use Rattle.package_core.proofs.PathLemmas.{dots_stripped}
 use Rattle.package_core.proofs.path.without_dots.Goals as goal
 

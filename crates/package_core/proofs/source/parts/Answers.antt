@@ -1,4 +1,4 @@
-use Rattle.std.proofs.Common.{rules, sym, ◌∙◌, ap, Some, None}
+use Rattle.std.proofs.Common.{sym, None}
 use Rattle.package_core.proofs.SourceLemmas.{parts_split}
 use Rattle.package_core.proofs.source.parts.Goals as goal
 

@@ -1,4 +1,4 @@
-use Rattle.std.proofs.Common.{ℕ, ◌≡◌, ◌∙◌, ap, arith}
+use Rattle.std.proofs.Common.{◌≡◌, ◌∙◌, ap, arith}
 use Rattle.package_core.specs.Source.{gaps_behind}
 use Rattle.package_core.proofs.SourceLemmas.{first_gap}
 use Rattle.package_core.proofs.source.without_gaps_behind.Goals as goal

@@ -1,6 +1,5 @@
 use Rattle.std.proofs.Common.{sym, ◌∙◌, ap, subst, ◌≡◌, ℕ, List, ◌++◌, string_bytes}
 use Rattle.std.specs.Str.{IsUtf8}
-use Rattle.control_stanza.specs.declared.stanza.Field.{Field}
 use Rattle.control_stanza.specs.Fields.{is_stanza}
 use Rattle.control_stanza.specs.Written.{stanza_text}
 use Rattle.package_core.proofs.TextLemmas.{stanza_is_utf8, if_ok_then}

@@ -1,0 +1,13 @@
+pub mod Rows
+pub mod Dashes
+pub mod Different
+pub mod Standing
+pub mod Fronts
+pub mod Lifted
+pub mod Commas
+pub mod Closed
+pub mod Completed
+pub mod Parts
+pub mod Each
+pub mod Top
+pub mod OnePlace

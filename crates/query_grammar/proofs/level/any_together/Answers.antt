@@ -1,0 +1,8 @@
+use Rattle.std.proofs.Common.{ap, sym, ◌∙◌}
+use Rattle.query_grammar.specs.Tree.{Tree, plain, node_tree}
+use Rattle.query_grammar.specs.declared.query.Query.TheVariants.{rolls-Any}
+use Rattle.query_grammar.specs.declared.query.Query.TheFolds.{fold-roll-Query}
+use Rattle.query_grammar.proofs.level.any_together.Goals as goal
+
+pub returns : goal.returns
+returns c = ap plain (sym (rolls-Any c.args.members)) ∙ fold-roll-Query Tree node_tree _
