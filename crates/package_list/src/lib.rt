@@ -7,6 +7,8 @@ mod laws;
 mod list;
 mod place;
 mod reduce;
+#[cfg(test)]
+mod tests;
 
 pub use fault::ListFault;
 pub use laws::unions_have_what_either_has;
