@@ -1,6 +1,6 @@
 -- The value of a field Source: `name` or `name (version)` (Debian Policy 5.6.1).
-use Rattle.std.specs.Prelude.{◌≡◌, ℕ, ◌+◌, ◌-◌, Bool, false, ◌&&◌, ◌||◌, ◌==◌, List, [], ◌∷◌, ◌++◌, length, take, drop, reverse, position, IsTrue, Option, Some, None, if◌then◌else◌}
-use Rattle.std.specs.List.{list_all, take_while}
+use Rattle.std.specs.Prelude.{ℕ, ◌+◌, ◌-◌, Bool, false, ◌&&◌, ◌||◌, ◌==◌, List, [], ◌∷◌, length, take, drop, reverse, position, Option, Some, None, if◌then◌else◌}
+use Rattle.std.specs.List.{take_while}
 use Rattle.std.specs.Option.{option_map}
 use Rattle.ap_text.specs.Names.{is_package_name}
 use Rattle.deb_version.specs.VersionText.{is_version}
@@ -53,27 +53,3 @@ are_source (Some (name, Some version)) = is_package_name name && is_version vers
 
 abbrev pub is_source : List ℕ → Bool
 is_source text = are_source (source_parts text)
-
-abbrev pub AllGaps : List ℕ → Type 0
-AllGaps text = IsTrue (list_all is_gap text)
-
--- the text is the name and, where there is one, the version in parentheses, with any gaps before and within these
-pub record SpellsVersion (behind version : List ℕ) : Type 0 where
-  pub before : List ℕ
-  pub first : List ℕ
-  pub last : List ℕ
-  pub is : behind ≡ before ++ 40 ∷ (first ++ (version ++ (last ++ 41 ∷ [])))
-  pub before_is : AllGaps before
-  pub first_is : AllGaps first
-  pub last_is : AllGaps last
-  pub version_is : IsTrue (is_version version)
-
-abbrev pub SpellsBehind : List ℕ → Option (List ℕ) → Type 0
-SpellsBehind behind None = behind ≡ []
-SpellsBehind behind (Some version) = SpellsVersion behind version
-
-pub record SpellsSource (text name : List ℕ) (version : Option (List ℕ)) : Type 0 where
-  pub behind : List ℕ
-  pub is : text ≡ name ++ behind
-  pub name_is : IsTrue (is_package_name name)
-  pub behind_is : SpellsBehind behind version
