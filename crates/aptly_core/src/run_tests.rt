@@ -64,11 +64,16 @@ fn kinds(alloc: Global, host: &MemHost) -> Result<String, AllocError> {
     Ok(text)
 }
 
-/// The root that a choice takes of the first operations.
-fn root_at(host: &MemHost, upto: usize, choice: u64) -> Result<Option<Bytes>, AllocError> {
+/// The file that a choice takes of the first operations.
+fn file_at(
+    host: &MemHost,
+    wanted: &str,
+    upto: usize,
+    choice: u64,
+) -> Result<Option<Bytes>, AllocError> {
     let upto = upto.min(host.log().len());
     for (path, bytes) in host.image(upto, choice)? {
-        if path.as_str() == "db/root" {
+        if path.as_str() == wanted {
             return Ok(Some(bytes));
         }
     }
@@ -87,7 +92,7 @@ fn a_repository_is_stored_before_its_reply(rt: HostRuntime) -> Result<(), Fail> 
         b"Repo local created.\n".as_slice()
     );
     assert_eq!(rt; ROOT_OF_LOCAL.len(), 123);
-    let root = root_at(&host, 8, 1)?.ok_or("no root")?;
+    let root = file_at(&host, "db/root", 8, 1)?.ok_or("no root")?;
     assert_eq!(rt; root.as_slice(), ROOT_OF_LOCAL.as_bytes());
     let again = call(alloc, &mut host, "repo create local")?;
     assert_eq!(rt; again.code(), 1);
@@ -99,6 +104,31 @@ fn a_repository_is_stored_before_its_reply(rt: HostRuntime) -> Result<(), Fail> 
     Ok(())
 }
 
+/// A store with this root and this staged file, where they are there.
+fn store_left(
+    alloc: Global,
+    root: Option<Bytes>,
+    staged: Option<Bytes>,
+) -> Result<MemHost, AllocError> {
+    let mut base = Vec::new(alloc);
+    match (root, staged) {
+        (None, None) => MemHost::new(alloc, base, Vec::new(alloc), false),
+        (Some(root), None) => {
+            base.push((SafePath::fixed(alloc, "db/root")?, root))?;
+            MemHost::new(alloc, base, Vec::new(alloc), false)
+        }
+        (None, Some(staged)) => {
+            base.push((SafePath::fixed(alloc, "stage/0")?, staged))?;
+            MemHost::new(alloc, base, Vec::new(alloc), false)
+        }
+        (Some(root), Some(staged)) => {
+            base.push((SafePath::fixed(alloc, "db/root")?, root))?;
+            base.push((SafePath::fixed(alloc, "stage/0")?, staged))?;
+            MemHost::new(alloc, base, Vec::new(alloc), false)
+        }
+    }
+}
+
 #[test]
 fn a_stopped_call_is_run_again(rt: HostRuntime) -> Result<(), Fail> {
     let alloc = rt.alloc();
@@ -106,16 +136,25 @@ fn a_stopped_call_is_run_again(rt: HostRuntime) -> Result<(), Fail> {
     let _status = call(alloc, &mut host, "repo create local")?;
     for (choice, last) in [(0, 5), (1, 6)] {
         for upto in 0..9 {
-            let root = root_at(&host, upto, choice)?;
-            let mut next = match &root {
-                None => store_of(alloc, None, false)?,
-                Some(root) => store_of(alloc, Some(root.as_slice()), false)?,
-            };
+            let root = file_at(&host, "db/root", upto, choice)?;
+            let staged = file_at(&host, "stage/0", upto, choice)?;
+            let mut next = store_left(alloc, root, staged)?;
             let status = call(alloc, &mut next, "repo create local")?;
             let wanted = if upto <= last { 0 } else { 1 };
             assert_eq!(rt; status.code(), wanted, "{choice} {upto}");
         }
     }
+    Ok(())
+}
+
+#[test]
+fn staged_files_are_removed_at_opening(rt: HostRuntime) -> Result<(), Fail> {
+    let alloc = rt.alloc();
+    let left = Bytes::new(alloc, b"left")?;
+    let mut host = store_left(alloc, None, Some(left))?;
+    let status = call(alloc, &mut host, "repo create local")?;
+    assert_eq!(rt; status.code(), 0);
+    assert_eq!(rt; kinds(alloc, &host)?.as_str(), "CBdBcasrBS");
     Ok(())
 }
 
