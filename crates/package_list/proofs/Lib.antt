@@ -3,3 +3,5 @@ pub mod Unions
 pub mod Beside
 pub mod Removal
 pub mod Keys
+mod Triples
+mod Gathers

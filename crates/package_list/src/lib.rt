@@ -1,7 +1,9 @@
 //! Lists of packages in their order, without equals, and how two of them are joined.
 #![tactic(auto)]
 
+mod by_triple;
 mod fault;
+mod gather;
 mod join;
 mod laws;
 mod list;

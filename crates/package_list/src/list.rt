@@ -5,9 +5,10 @@ ghost use Rattle.package_core.specs.Order.{package_cmp};
 ghost use Rattle.std.specs.Option.{option_copied};
 ghost use Rattle.package_list.specs.Sorted.{put, IsAscending, equal_of};
 ghost use Rattle.package_list.specs.Lists.{union, without, has_member, merged, latest};
-ghost use Rattle.package_list.specs.Answers.{Answers, insert_answer, append_answer, size_answer};
+ghost use Rattle.package_list.specs.Answers.{Answers, insert_answer, append_answer, size_answer, join_answer};
 
 use crate::fault::ListFault;
+use crate::gather::{gathered, items_of};
 use crate::join::{clash_in, copy_items, union_of};
 use crate::place::{clashes_at, equal_in, found_at, is_at, place_of};
 use crate::reduce::{latest_of, merge_of};
@@ -17,7 +18,7 @@ use std::marker::Model;
 use std::rc::Rc;
 
 /// The members that a list may have.
-const MOST: usize = 200_000;
+pub(crate) const MOST: usize = 200_000;
 
 /// The members that the list of all known packages may have.
 const MOST_KNOWN: usize = 400_000;
@@ -52,6 +53,18 @@ impl PackageList {
         PackageList {
             items: Vec::new(alloc),
         }
+    }
+
+    /// The packages joined in the order in which they stand; of equal ones the first stays. The first that can't join those
+    /// before it decides the fault: `Conflict` where none of those is its equal and one of them has its triple; else `Full`
+    /// where it would be the 200,001st member. It takes n log n comparisons, and moves each package once.
+    pub fn from_packages(alloc: Global, packages: Vec<Package>) -> Result<PackageList, ListFault>
+        ensures { Answers result (join_answer packages.items) }
+    {
+        let members = gathered(alloc, packages)?;
+        Ok(PackageList {
+            items: items_of(alloc, members)?,
+        })
     }
 
     /// The number of members.
