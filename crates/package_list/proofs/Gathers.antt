@@ -18,14 +18,14 @@ use Rattle.package_list.specs.Sorted.{IsBelow, IsAscending, put, placed, union, 
 use Rattle.package_list.specs.Lists.{has_member, clashes, clash, joined}
 use Rattle.package_list.specs.Answers.{Answers, FaultIs, insert_answer, refusal, first_refusal, err_or, join_answer}
 use Rattle.package_list.proofs.SortedLemmas.{put_has, union_ascending}
-use Rattle.package_list.proofs.Beside.{tied}
-use Rattle.package_list.proofs.Triples.{package_is, decided}
+use Rattle.package_list.proofs.Beside.{tied, triple_begins}
+use Rattle.package_list.proofs.Triples.{decided}
 
-or_false : (b : Bool) → (b || false) ≡ b
+pub or_false : (b : Bool) → (b || false) ≡ b
 or_false true = refl
 or_false false = refl
 
-or_assoc : (a b c : Bool) → (a || (b || c)) ≡ ((a || b) || c)
+pub or_assoc : (a b c : Bool) → (a || (b || c)) ≡ ((a || b) || c)
 or_assoc true b c = refl
 or_assoc false b c = refl
 
@@ -71,7 +71,7 @@ equal_triple Greater s h = cc
 -- equals clash with the same
 pub clash_alike : (p x y : Package) → package_cmp x y ≡ Equal → clash x p ≡ clash y p
 clash_alike p x y e =
-    let t : triple_cmp x y ≡ Equal = equal_triple (triple_cmp x y) (body_cmp x y) (sym (package_is x y) ∙ e) in
+    let t : triple_cmp x y ≡ Equal = equal_triple (triple_cmp x y) (body_cmp x y) (sym (triple_begins x y) ∙ e) in
     let s : same_triple x p ≡ same_triple y p = same_triple-is x p ∙ ap is_eq (triple_total.congr x y p t) ∙ sym (same_triple-is y p) in
     (λ i. s i && not (is_eq (package_total.congr x y p e i)))
 
@@ -136,7 +136,7 @@ apart [] h = tt
 apart (x ∷ xs) h = (below x xs h.0, apart xs h.1)
 
 less_in_all : (x y : Package) → triple_cmp x y ≡ Less → package_cmp x y ≡ Less
-less_in_all x y h = package_is x y ∙ ap (λ t. ordering_then t (body_cmp x y)) h
+less_in_all x y h = triple_begins x y ∙ ap (λ t. ordering_then t (body_cmp x y)) h
 
 below_in_all : (x : Package) (xs : List Package) → IsBelow triple_cmp x xs → IsBelow package_cmp x xs
 below_in_all x [] b = tt
@@ -185,7 +185,7 @@ module _ (p : Package) (f : Package → Bool) (inside : (q : Package) → of_tri
 equal_inside : (p q : Package) → of_triple p q ≡ false → is_eq (package_cmp q p) ≡ false
 equal_inside p q h =
     let n : is_eq (triple_cmp q p) ≡ false = back p q ∙ h in
-    ap is_eq (package_is q p ∙ decided (triple_cmp q p) (body_cmp q p) n) ∙ n
+    ap is_eq (triple_begins q p ∙ decided (triple_cmp q p) (body_cmp q p) n) ∙ n
 
 clash_inside : (p q : Package) → of_triple p q ≡ false → clash q p ≡ false
 clash_inside p q h = ap (λ b. b && not (is_eq (package_cmp q p))) (same_triple-is q p ∙ back p q ∙ h)

@@ -5,3 +5,4 @@ pub mod Removal
 pub mod Keys
 mod Triples
 mod Gathers
+mod Passed

@@ -1,6 +1,7 @@
 //! Lists of packages in their order, without equals, and how two of them are joined.
 #![tactic(auto)]
 
+mod apart;
 mod by_triple;
 mod fault;
 mod gather;

@@ -7,9 +7,10 @@ ghost use Rattle.package_list.specs.Sorted.{put, IsAscending, equal_of};
 ghost use Rattle.package_list.specs.Lists.{union, without, has_member, merged, latest};
 ghost use Rattle.package_list.specs.Answers.{Answers, insert_answer, append_answer, size_answer, join_answer};
 
+use crate::apart::apart_union_of;
 use crate::fault::ListFault;
 use crate::gather::{gathered, items_of};
-use crate::join::{clash_in, copy_items, union_of};
+use crate::join::{copy_items, union_of};
 use crate::place::{clashes_at, equal_in, found_at, is_at, place_of};
 use crate::reduce::{latest_of, merge_of};
 use package_core::Package;
@@ -142,10 +143,7 @@ impl PackageList {
         ensures ok { OnOk result (self.new ≡ union self.old later.now) }
         ensures err { OnErr result (self.new ≡ self.old) }
     {
-        let all = union_of(alloc, &self.items, &later.items)?;
-        if let Some(clash) = clash_in(&all, &later.items) {
-            return Err(ListFault::Conflict(clash.triple(alloc)?));
-        }
+        let all = apart_union_of(alloc, &self.items, &later.items)?;
         if all.len() > MOST {
             return Err(ListFault::Full);
         }

@@ -117,7 +117,7 @@ fn place_behind(items: &[Rc<Package>], place: usize, wanted: &Package) -> usize
     }
 }
 
-fn first_has_triple(items: &[Rc<Package>], place: usize, wanted: &Package) -> bool
+pub(crate) fn first_has_triple(items: &[Rc<Package>], place: usize, wanted: &Package) -> bool
     ensures { result ≡ first_is (λ q. same_triple q wanted.now) (drop place (map rc_value items.now)) }
 {
     match member_at(items, place) {
@@ -126,7 +126,7 @@ fn first_has_triple(items: &[Rc<Package>], place: usize, wanted: &Package) -> bo
     }
 }
 
-fn last_has_triple(items: &[Rc<Package>], place: usize, wanted: &Package) -> bool
+pub(crate) fn last_has_triple(items: &[Rc<Package>], place: usize, wanted: &Package) -> bool
     requires { place ≤ length items.now }
     ensures { result ≡ last_is (λ q. same_triple q wanted.now) (take place (map rc_value items.now)) }
 {
