@@ -19,7 +19,8 @@ use std::alloc::Global;
 /// The facts of bytes that are as said.
 fn compared(alloc: Global, bytes: &[u8], said: &Said) -> Result<Digests, PoolFault>
     ensures answer { IsAnswer (Some bytes.now) said.now result }
-    ensures inside { IsInside result }
+    ensures host { IsErrOf result HostFault → ⊥ }
+    ensures inbox { IsErrOf result InboxFault → ⊥ }
 {
     let digests = digests_of(bytes);
     match mismatch(alloc, said, &digests)? {
