@@ -4,3 +4,4 @@ pub mod GrowthLemmas
 pub mod SetLemmas
 pub mod LodgeLemmas
 pub mod ReadLemmas
+pub mod AnswerLemmas

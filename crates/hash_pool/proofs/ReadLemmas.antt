@@ -1,21 +1,11 @@
 -- Files read piece by piece.
-use Rattle.std.proofs.Common.{◌≡◌, inl, inr, ℕ, zero, suc, ◌+◌, ◌-◌, ◌<◌, ◌≤◌, min, List, [], ◌∷◌, ◌++◌, length, take, drop, Option, None, Some, unwrap_or, option_map, refl, sym, ◌∙◌, ap, arith, length-append, length-drop}
+use Rattle.std.proofs.Common.{◌≡◌, inl, inr, ℕ, ◌+◌, ◌-◌, ◌<◌, ◌≤◌, min, List, [], ◌∷◌, ◌++◌, length, take, drop, take-take, Option, None, Some, unwrap_or, option_map, refl, sym, ◌∙◌, ap, arith, length-append, length-drop}
 use Rattle.std.proofs.Math.Seq.{take-add}
 use Rattle.std.proofs.lemmas.List.{length-take-le, take_all}
 use Rattle.std.proofs.lemmas.Bool.{cases_lt}
 use Rattle.ap_host.specs.Disk.{Content}
 use Rattle.ap_host.specs.Calls.{Reads}
 use Rattle.hash_pool.specs.Reading.{IsReadTo, IsReadSoFar, ReadsOn}
-
-take_none : (xs : List ℕ) → take zero xs ≡ []
-take_none [] = refl
-take_none (x ∷ xs) = refl
-
-take_take : (n m : ℕ) (xs : List ℕ) → n ≤ m → take n (take m xs) ≡ take n xs
-take_take zero m xs le = take_none (take m xs) ∙ sym (take_none xs)
-take_take (suc n) zero xs le = absurd (omega (arith, le))
-take_take (suc n) (suc m) [] le = refl
-take_take (suc n) (suc m) (x ∷ xs) le = ap (λ (t : List ℕ). x ∷ t) (take_take n m xs (omega (arith, le)))
 
 pub reads_on : (content : Content) (before out now : List ℕ) (given left n : ℕ) → Reads content (length before) out given → 0 < length out → given ≤ length out → n ≡ min given left → 0 < left → now ≡ before ++ take n out → ReadsOn content before now n
 reads_on content before out now given left n reads some fits least more is so_far = (
@@ -39,7 +29,7 @@ reads_on content before out now given left n reads some fits least more is so_fa
     behind = length-drop at c
 
     part : take n out ≡ take n (drop at c)
-    part = sym (take_take n given out (omega (arith, least))) ∙ ap (λ (t : List ℕ). take n t) reads.bytes ∙ take_take n given (drop at c) (omega (arith, least))
+    part = sym (take-take n given out (omega (arith, least))) ∙ ap (λ (t : List ℕ). take n t) reads.bytes ∙ take-take n given (drop at c) (omega (arith, least))
 
 -- the reading ends at the place that was asked for, or before it at the file's end
 pub read_to : (upto : ℕ) (content : Content) (bytes : List ℕ) → IsReadSoFar content bytes → length bytes ≤ upto → upto ≤ length bytes → IsReadTo upto content bytes
