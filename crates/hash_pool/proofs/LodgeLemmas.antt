@@ -1,17 +1,17 @@
 -- One file lodged in the pool.
-use Rattle.std.proofs.Common.{◌≡◌, ◌⊎◌, inl, inr, ℕ, true, false, List, [], ◌∷◌, Bool, Option, Some, None, IsSome, is_some, IsTrue, IsFalse, Result, Ok, Err, OnOk, option_map, length, refl, sym, ◌∙◌, ap, subst}
+use Rattle.std.proofs.Common.{◌≡◌, ◌⊎◌, inl, inr, ℕ, true, false, List, [], Bool, Option, Some, None, IsSome, is_some, IsTrue, IsFalse, Result, Ok, Err, OnOk, option_map, length, refl, sym, ◌∙◌, ap, subst}
 use Rattle.std.specs.Option.{ForSome, option_or}
 use Rattle.std.specs.List.{AllByRecursion}
 use Rattle.sha2.specs.Sha256.{sha256}
 use Rattle.ap_host.specs.declared.host.Op.{Op}
 use Rattle.ap_host.specs.declared.host.Op.TheVariants.{Create, Append, Sync, Rename, Remove, Barrier, Say, Claim}
 use Rattle.ap_host.specs.Disk.{Path, Content, Log, disk_of, live_of, extended}
-use Rattle.ap_host.specs.Changes.{EachOp, GoesOn}
+use Rattle.ap_host.specs.Changes.{GoesOn}
 use Rattle.ap_host.proofs.DiskLemmas.{one, two, same_path, extended-none, Added-none}
 use Rattle.ap_host.proofs.ChangeLemmas.{EachOp-map}
 use Rattle.stage_file.specs.Stage.{StageState, IsInStep}
 use Rattle.hash_pool.specs.Names.{is_pooled, pool_name}
-use Rattle.hash_pool.specs.Growth.{IsTaking, targets, IsOnce, IsBody, HasGrown, Onward, PoolGrows}
+use Rattle.hash_pool.specs.Growth.{IsTaking, IsOnce, IsBody, HasGrown, Onward}
 use Rattle.hash_pool.specs.Lodging.{SetsOne, IsSetting, Sets, IsHeld, Lodges}
 use Rattle.hash_pool.proofs.NameLemmas.{name_pooled, name_not_staged}
 use Rattle.hash_pool.proofs.OnwardLemmas.{Onward-start, Onward-first}

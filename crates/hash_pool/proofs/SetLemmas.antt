@@ -1,24 +1,19 @@
 -- One path is set, and one file lodged in the pool.
-use Rattle.std.proofs.Common.{◌≡◌, ◌≢◌, ◌⊎◌, inl, inr, ℕ, true, false, List, [], ◌∷◌, ◌++◌, Option, Some, None, IsSome, IsTrue, IsFalse, Result, Ok, Err, OnOk, refl, sym, ◌∙◌, ap, subst, append_assoc, append-nil}
-use Rattle.std.specs.List.{AllByRecursion}
-use Rattle.std.specs.Option.{option_or}
-use Rattle.sha2.specs.Sha256.{sha256}
+use Rattle.std.proofs.Common.{◌≡◌, ◌≢◌, ◌⊎◌, inl, inr, ℕ, List, [], ◌∷◌, ◌++◌, Some, None, IsTrue, IsFalse, Result, Ok, Err, OnOk, refl, sym, ◌∙◌, ap, subst, append-nil}
 use Rattle.ap_host.specs.declared.host.Op.{Op}
 use Rattle.ap_host.specs.declared.host.Op.TheVariants.{Create, Append, Sync, Rename, Remove, Barrier, Say, Claim}
 use Rattle.ap_host.specs.declared.host.HostErr.{HostErr}
-use Rattle.ap_host.specs.Disk.{Path, Content, Files, with_file, moved, Log, disk_of, live_of, extended, Durable, Throughout}
-use Rattle.ap_host.specs.Calls.{Did}
+use Rattle.ap_host.specs.Disk.{Path, Content, with_file, moved, Log, live_of, extended}
 use Rattle.ap_host.specs.Changes.{EachOp, SameExcept}
-use Rattle.ap_host.proofs.DiskLemmas.{one, two, same_path, with_file-same, extended-append, extended-none}
-use Rattle.ap_host.proofs.ChangeLemmas.{EachOp-append, EachOp-map, IsPart, part_each, part_cases, part_touches, did_part, did_ok, same_after}
-use Rattle.stage_file.specs.Stage.{StageState, stage_path, is_staged, LaysAt, IsLaid, Lays, Places, IsMarked, IsInStep}
+use Rattle.ap_host.proofs.DiskLemmas.{with_file-same, extended-append}
+use Rattle.ap_host.proofs.ChangeLemmas.{EachOp-append, EachOp-map, part_touches, did_part, did_ok, same_after}
+use Rattle.stage_file.specs.Stage.{StageState, stage_path, is_staged, LaysAt, IsLaid, Lays, Places}
 use Rattle.stage_file.proofs.StageLemmas.{lays_only, live_step_of}
-use Rattle.hash_pool.specs.Names.{is_pooled, pool_name}
-use Rattle.hash_pool.specs.Growth.{IsTaking, targets, IsOnce, HasGrown, Onward, PoolGrows}
-use Rattle.hash_pool.specs.Lodging.{SetsOne, IsSetting, Sets, Lodges}
-use Rattle.hash_pool.proofs.NameLemmas.{staged_path, not_both, not_stage_path, name_pooled, name_not_staged}
-use Rattle.hash_pool.proofs.OnwardLemmas.{Onward-start, Onward-first, Onward-none, Onward-one, Onward-append, onward_same}
-use Rattle.hash_pool.proofs.GrowthLemmas.{none_some, targets-append, grows_none}
+use Rattle.hash_pool.specs.Growth.{targets, Onward}
+use Rattle.hash_pool.specs.Lodging.{SetsOne, IsSetting, Sets}
+use Rattle.hash_pool.proofs.NameLemmas.{staged_path, not_stage_path}
+use Rattle.hash_pool.proofs.OnwardLemmas.{Onward-none, Onward-one, Onward-append, onward_same}
+use Rattle.hash_pool.proofs.GrowthLemmas.{targets-append}
 
 pub sets_refl : (path : Path) (bytes : List ℕ) (l : Log) → SetsOne path bytes l l
 sets_refl path bytes l = record { live = inl refl; may = λ x m. inl m; other_live = λ p out n. refl; other_may = λ p x out n m. m }

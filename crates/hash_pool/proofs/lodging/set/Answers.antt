@@ -1,9 +1,9 @@
-use Rattle.std.proofs.Common.{List, ℕ, Ok, refl, sym, ◌∙◌, ap, subst}
+use Rattle.std.proofs.Common.{ap, subst}
 use Rattle.std.proofs.lemmas.Result.{err_from_is_err_and}
 use Rattle.ap_host.specs.Disk.{Path}
 use Rattle.ap_host.specs.Changes.{GoesOn}
 use Rattle.ap_host.proofs.ChangeLemmas.{GoesOn-then, GoesOn-map}
-use Rattle.stage_file.specs.Stage.{StageState, stage_path, Places}
+use Rattle.stage_file.specs.Stage.{StageState, Places}
 use Rattle.hash_pool.proofs.SetLemmas.{sets_broken, sets_placed}
 use Rattle.hash_pool.proofs.lodging.set.Goals as goal
 
