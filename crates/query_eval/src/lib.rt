@@ -12,7 +12,6 @@ mod node;
 mod patterns;
 mod prepare;
 mod prepared;
-
 #[cfg(test)]
 mod tests;
 mod truth;

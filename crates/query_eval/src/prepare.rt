@@ -1,6 +1,6 @@
 //! Building the regular expressions of a query.
 
-ghost use Rattle.std.specs.Prelude.{◌≡◌, ◌+◌, ◌∷◌, [], IfOk, length, map};
+ghost use Rattle.std.specs.Prelude.{◌≡◌, ◌+◌, ◌∷◌, [], IfOk, length, map, Some};
 ghost use Rattle.std.specs.Option.{option_map};
 ghost use Rattle.query_grammar.specs.Tree.{plain, plains, listed};
 ghost use Rattle.query_grammar.specs.Tree as spec;
@@ -99,8 +99,8 @@ fn check<M: Patterns>(
     before: u64,
 ) -> Result<(Check, u64), EvalFault>
     ensures stands { IfOk result (λ made. check_test made.0 ≡ (test, text.now)) }
-    ensures count { IfOk result (λ made. made.1 ≡ before + length (pattern_of (Option.Some (test, text.now)))) }
-    ensures prepares { Prepares before (pattern_of (Option.Some (test, text.now))) (M.refusals patterns.old) (M.refusals patterns.new) (M.refused patterns.old) (M.refused patterns.new) result }
+    ensures count { IfOk result (λ made. made.1 ≡ before + length (pattern_of (Some (test, text.now)))) }
+    ensures prepares { Prepares before (pattern_of (Some (test, text.now))) (M.refusals patterns.old) (M.refusals patterns.new) (M.refused patterns.old) (M.refused patterns.new) result }
 {
     match test {
         Test::Pattern => expression(patterns, text.as_str(), before),
