@@ -4,3 +4,4 @@ pub mod GlobFacts
 pub mod Expressions
 pub mod Fields
 pub mod Preparing
+pub mod Provided
