@@ -85,6 +85,7 @@ done_refused before texts more rest count old mid new refused mid_refused new_re
   never_falls = omega (arith, d.never_falls, p.never_falls);
   kept = p.kept ∙ d.kept;
 }
+
 pub done_all : {X : Type 0} (before : ℕ) (texts : List (List ℕ)) (count old new : ℕ) (refused new_refused : Option (List ℕ)) (x : X) → Done before texts [] count old new refused new_refused → (count ≡ before + length texts) × Prepares before texts old new refused new_refused (Ok x)
 done_all before texts count old new refused new_refused x d =
     let whole : texts ≡ d.done = d.split ∙ append-nil d.done in

@@ -38,12 +38,7 @@ fn copy_arch(alloc: Global, arch: &Option<Name>) -> Result<Option<Name>, AllocEr
     }
 }
 
-fn reference(
-    alloc: Global,
-    name: &Name,
-    version: &Version,
-    arch: &Name,
-) -> Result<Node, AllocError>
+fn reference(alloc: Global, name: &Name, version: &Version, arch: &Name) -> Result<Node, AllocError>
     ensures { IfOk result (λ made. node_tree made ≡ spec.reference name.now version.now arch.now) }
 {
     Ok(Node::Reference {
@@ -105,10 +100,19 @@ fn check<M: Patterns>(
     match test {
         Test::Pattern => expression(patterns, text.as_str(), before),
         Test::Glob => Ok((Check::Glob(text.copy(alloc)?), before)),
-        Test::Less => Ok((Check::Compared(Relation::Earlier, text.copy(alloc)?), before)),
-        Test::LessEqual => Ok((Check::Compared(Relation::EarlierEqual, text.copy(alloc)?), before)),
+        Test::Less => Ok((
+            Check::Compared(Relation::Earlier, text.copy(alloc)?),
+            before,
+        )),
+        Test::LessEqual => Ok((
+            Check::Compared(Relation::EarlierEqual, text.copy(alloc)?),
+            before,
+        )),
         Test::Equal => Ok((Check::Compared(Relation::Equal, text.copy(alloc)?), before)),
-        Test::GreaterEqual => Ok((Check::Compared(Relation::LaterEqual, text.copy(alloc)?), before)),
+        Test::GreaterEqual => Ok((
+            Check::Compared(Relation::LaterEqual, text.copy(alloc)?),
+            before,
+        )),
         Test::Greater => Ok((Check::Compared(Relation::Later, text.copy(alloc)?), before)),
     }
 }
