@@ -2,13 +2,14 @@
 ghost use Rattle.std.specs.Prelude.{◌≡◌, ◌≤◌, IfOk, OnOk, OnErr, length, slice_get, [], ◌∷◌, MatchOption, Some, map};
 ghost use Rattle.std.specs.Rc.{rc_value};
 ghost use Rattle.package_core.specs.Order.{package_cmp};
-ghost use Rattle.package_list.specs.Sorted.{put, IsAscending};
+ghost use Rattle.std.specs.Option.{option_copied};
+ghost use Rattle.package_list.specs.Sorted.{put, IsAscending, equal_of};
 ghost use Rattle.package_list.specs.Lists.{union, without, has_member, merged, latest};
 ghost use Rattle.package_list.specs.Answers.{Answers, insert_answer, append_answer, size_answer};
 
 use crate::fault::ListFault;
 use crate::join::{clash_in, copy_items, union_of};
-use crate::place::{clashes_at, found_at, is_at, place_of};
+use crate::place::{clashes_at, equal_in, found_at, is_at, place_of};
 use crate::reduce::{latest_of, merge_of};
 use package_core::Package;
 use std::alloc::{AllocError, Global};
@@ -68,6 +69,21 @@ impl PackageList {
             Some(rc) => Some(rc.as_ref()),
             None => None,
         }
+    }
+
+    /// All members in their order, shared, for a loop over them.
+    pub fn as_slice(&self) -> &[Rc<Package>]
+        ensures { map rc_value result.now ≡ self.now }
+    {
+        self.items.as_slice()
+    }
+
+    /// The member that is equal to the package in the order of packages; `None` exactly where none is. What is said of the
+    /// member's file, beside its SHA-256, may differ from what the package says. It takes no memory.
+    pub fn equal_of(&self, wanted: &Package) -> Option<&Package>
+        ensures { option_copied result ≡ equal_of package_cmp self.now wanted.now }
+    {
+        equal_in(&self.items, wanted)
     }
 
     /// The same list once more, with its packages shared. Fails only for want of memory.

@@ -2,7 +2,8 @@
 ghost use Rattle.std.specs.Prelude.{◌≡◌, ◌≤◌, ◌<◌, ◌+◌, length, [], ◌∷◌, MatchOption, map, take, drop, remove, true, false};
 ghost use Rattle.std.specs.Rc.{rc_value};
 ghost use Rattle.package_core.specs.Order.{package_cmp, same_triple};
-ghost use Rattle.package_list.specs.Sorted.{IsAscending, IsBelow, AllLess, StartsAt, first_is, last_is};
+ghost use Rattle.std.specs.Option.{option_copied};
+ghost use Rattle.package_list.specs.Sorted.{IsAscending, IsBelow, AllLess, StartsAt, first_is, last_is, equal_of};
 ghost use Rattle.package_list.specs.Lists.{has_member, clashes, without};
 
 use package_core::{Package, compare_packages, has_same_triple};
@@ -64,6 +65,24 @@ pub(crate) fn found_at(items: &[Rc<Package>], wanted: &Package) -> Option<usize>
         Some(place)
     } else {
         None
+    }
+}
+
+/// The member that is equal to the package.
+pub(crate) fn equal_in<'a>(items: &'a [Rc<Package>], wanted: &Package) -> Option<&'a Package>
+    requires { IsAscending package_cmp (map rc_value items.now) }
+    ensures { option_copied result ≡ equal_of package_cmp (map rc_value items.now) wanted.now }
+{
+    let place = place_of(items, wanted);
+    match member_at(items, place) {
+        Some(member) => {
+            if compare_packages(member, wanted).is_eq() {
+                Some(member)
+            } else {
+                None
+            }
+        }
+        None => None,
     }
 }
 

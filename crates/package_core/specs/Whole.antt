@@ -1,0 +1,28 @@
+-- Packages all of whose facts are known, and their texts.
+use Rattle.std.specs.Prelude.{◌≡◌, ℕ, ◌<◌, ◌^◌, true, List, length, IfSome}
+use Rattle.hex.specs.Hex.{IsBytes}
+use Rattle.digest_set.specs.declared.facts.Said.{Said}
+use Rattle.package_core.specs.Card.{Card, IsPackage, is_complete, package_text}
+
+-- so many bytes
+pub record IsDigest (size : ℕ) (bytes : List ℕ) : Type 0 where
+  pub size_is : length bytes ≡ size
+  pub bytes_are : IsBytes bytes
+
+-- a size below 2^64, and of each digest that is said as many bytes as it has (FIPS 180-4, RFC 1321)
+pub record IsSaid (said : Said) : Type 0 where
+  pub size : said.size < 2 ^ 64
+  pub sha256 : IsDigest 32 said.sha256
+  pub sha1 : IfSome said.sha1 (IsDigest 20)
+  pub md5 : IfSome said.md5 (IsDigest 16)
+
+-- A package such as a binary stanza describes, of whose file all four facts are known.
+pub record IsWhole (p : Card) : Type 0 where
+  pub described : IsPackage p
+  pub said : IsSaid p.said
+  pub complete : is_complete p ≡ true
+
+-- the bytes are the text of this package
+pub record IsTextOf (bytes : List ℕ) (p : Card) : Type 0 where
+  pub whole : IsWhole p
+  pub text : package_text p ≡ bytes
