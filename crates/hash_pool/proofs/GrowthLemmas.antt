@@ -1,17 +1,17 @@
 -- How the pool grows.
-use Rattle.std.proofs.Common.{◌≡◌, ◌⊎◌, inl, inr, ℕ, List, [], ◌∷◌, ◌++◌, Option, Some, None, IsSome, IsTrue, IsFalse, refl, sym, ◌∙◌, ap, subst}
+use Rattle.std.proofs.Common.{◌≡◌, inl, inr, ℕ, List, [], ◌∷◌, ◌++◌, Some, None, IsSome, IsTrue, IsFalse, refl, sym, ◌∙◌, ap, subst}
 use Rattle.std.specs.List.{AllByRecursion}
 use Rattle.sha2.specs.Sha256.{sha256}
 use Rattle.ap_host.specs.declared.host.Op.{Op}
 use Rattle.ap_host.specs.declared.host.Op.TheVariants.{Create, Append, Sync, Rename, Remove, Barrier, Say, Claim}
-use Rattle.ap_host.specs.Disk.{Path, Content, Files, Log, disk_of, live_of, extended, Image, Throughout}
+use Rattle.ap_host.specs.Disk.{Path, Content, Log, disk_of, live_of, extended}
 use Rattle.ap_host.specs.Changes.{EachOp}
-use Rattle.ap_host.proofs.DiskLemmas.{extended-append, extended-none, Throughout-map}
+use Rattle.ap_host.proofs.DiskLemmas.{extended-append, Throughout-map}
 use Rattle.ap_host.proofs.ChangeLemmas.{EachOp-append, EachOp-map}
 use Rattle.ap_host.proofs.LegalLemmas.{image_at}
 use Rattle.stage_file.specs.Stage.{is_staged}
-use Rattle.hash_pool.specs.Names.{is_pooled, pool_name, IsNamed, Named}
-use Rattle.hash_pool.specs.Growth.{IsTaking, targets, IsNot, IsOnce, IsBody, HasGrown, Onward, PoolGrows, Growths}
+use Rattle.hash_pool.specs.Names.{is_pooled, pool_name, Named}
+use Rattle.hash_pool.specs.Growth.{IsTaking, targets, IsNot, IsOnce, IsBody, HasGrown, PoolGrows, Growths}
 use Rattle.hash_pool.proofs.NameLemmas.{pooled_not_staged, name_pooled, not_both}
 use Rattle.hash_pool.proofs.OnwardLemmas.{Onward-start, Onward-whole, Onward-none, Onward-append}
 

@@ -1,5 +1,5 @@
 -- What holds between each two moments of a run of operations.
-use Rattle.std.proofs.Common.{◌≡◌, inl, inr, List, [], ◌∷◌, ◌++◌, refl, sym, ◌∙◌, ap, subst, append_assoc, append-nil}
+use Rattle.std.proofs.Common.{◌≡◌, inl, inr, List, [], ◌∷◌, ◌++◌, sym, ◌∙◌, ap, subst, append_assoc, append-nil}
 use Rattle.ap_host.specs.declared.host.Op.{Op}
 use Rattle.ap_host.specs.Disk.{Path, Log, extended, Throughout}
 use Rattle.ap_host.specs.Changes.{TouchesOnly, EachOp, SameExcept}
