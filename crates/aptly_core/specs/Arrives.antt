@@ -15,8 +15,8 @@ use Rattle.machine_step.specs.declared.outcome.Reading.{Reading}
 use Rattle.machine_step.specs.declared.outcome.Reading.TheVariants as readings
 use Rattle.local_repo.specs.Answers.{IsArrival}
 use Rattle.local_repo.specs.Bodies.{HasBody}
-use Rattle.aptly_core.specs.declared.run.RunFault.{RunFault}
-use Rattle.aptly_core.specs.declared.run.RunFault.TheVariants.{HostFault, InboxFault, OutOfMemory}
+use Rattle.aptly_core.specs.declared.fault.RunFault.{RunFault}
+use Rattle.aptly_core.specs.declared.fault.RunFault.TheVariants.{HostFault, InboxFault, OutOfMemory}
 use Rattle.aptly_core.specs.Store.{BodiesApart, Stored}
 
 -- a refusal of what was read has arrived too

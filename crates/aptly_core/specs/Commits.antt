@@ -3,7 +3,7 @@ use Rattle.std.specs.Prelude.{◌≡◌, ◌⊎◌, ◌≤◌, List, [], ◌∷�
 use Rattle.ap_host.specs.declared.host.Op.{Op}
 use Rattle.ap_host.specs.declared.host.Op.TheVariants.{Create, Append, Sync, Rename, Barrier}
 use Rattle.ap_host.specs.declared.host.HostErr.{HostErr}
-use Rattle.ap_host.specs.Disk.{Log, extended, live_of, Durable}
+use Rattle.ap_host.specs.Disk.{Log, extended, live_of, Images, Durable}
 use Rattle.ap_host.specs.Changes.{EachOp}
 use Rattle.run_model.specs.Run.{Grows, AtRest}
 use Rattle.stage_file.specs.Stage.{StageState, is_staged, IsInStep}
@@ -35,9 +35,22 @@ pub record MayCommit (old new : StateView) (stage : StageState) (l : Log) : Type
   pub step : IsInStep stage l
   pub next : IsNext new l
 
--- The files that were taken in are made durable, then the root is set, once, to the text of the new state. A stop leaves the old
--- state or the new one, and after the end the new.
-pub record Commits {T : Type 0} (old new : StateView) (before now : StageState) (result : Result T HostErr) (l : Log) (ops : List Op) : Type 0 where
+-- where the root may be set: each image stands for the old state, and has the new state's files too
+pub record MaySet (old new : StateView) (l : Log) : Type 0 where
+  pub rest : AtRest store old l
+  pub valid : Valid new
+  pub bodies : Images l (λ f. All (HasBody f) new.known)
+
+-- The root is set, once, to the text of the new state. A stop leaves the old state or the new one, and after the end the new.
+pub record SetsRoot {T : Type 0} (old new : StateView) (result : Result T HostErr) (l : Log) (ops : List Op) : Type 0 where
+  pub only : EachOp IsCommitting ops
+  pub targets : (targets ops ≡ []) ⊎ (targets ops ≡ root ∷ [])
+  pub grows : MaySet old new l → Grows store old new l ops
+  pub rests : MaySet old new l → OnOk result (AtRest store new (extended ops l))
+  pub durable : OnOk result (Durable (extended ops l))
+
+-- The files that were taken in are made durable, and then the root is set.
+pub record Commits {T : Type 0} (old new : StateView) (before : StageState) (result : Result T HostErr) (l : Log) (ops : List Op) : Type 0 where
   pub only : EachOp IsCommitting ops
   pub targets : (targets ops ≡ []) ⊎ (targets ops ≡ root ∷ [])
   pub grows : MayCommit old new before l → Grows store old new l ops

@@ -13,8 +13,8 @@ use Rattle.machine_state.specs.declared.refusal.Refusal.{Refusal}
 use Rattle.machine_state.specs.State.{Valid}
 use Rattle.machine_state.specs.Values.{StateView}
 use Rattle.reply_text.specs.Refusals.{refusal_line}
-use Rattle.aptly_core.specs.declared.run.RunFault.{RunFault}
-use Rattle.aptly_core.specs.declared.run.RunFault.TheVariants.{HostFault, InboxFault, OutOfMemory}
+use Rattle.aptly_core.specs.declared.fault.RunFault.{RunFault}
+use Rattle.aptly_core.specs.declared.fault.RunFault.TheVariants.{HostFault, InboxFault, OutOfMemory}
 use Rattle.aptly_core.specs.declared.status.Status.{Status}
 use Rattle.aptly_core.specs.declared.status.Status.TheVariants as statuses
 use Rattle.aptly_core.specs.Machine.{machine, Steps, IsWork}

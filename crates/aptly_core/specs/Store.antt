@@ -16,7 +16,7 @@ use Rattle.aptly_core.specs.declared.catalogue_root.LoadFault.{LoadFault}
 use Rattle.aptly_core.specs.declared.catalogue_root.LoadFault.TheVariants.{Damaged, HostFault, OutOfMemory}
 
 -- the path of the root
-pub root : Path
+abbrev pub root : Path
 root = codes "db/root"
 
 -- the root holds the state's text. A store without a root is empty
@@ -77,13 +77,17 @@ pub record IsListed (files : Files) (p : Card) : Type 0 where
   pub root : IsRootOf (files root) state
   pub known : Contains state.known p
 
--- what is wrong in the files
+-- what is wrong with the file of a package: it isn't there, or has another length
+abbrev pub IsWrong : Files → Card → Damage → Type 0
+IsWrong files p (Missing path) = (path ≡ pool_name p.said.sha256) × (files path ≡ None)
+IsWrong files p (Size path said found) = (path ≡ pool_name p.said.sha256) × (said ≡ p.said.size) × (said ≢ found) × (bytes : List ℕ) × (files path ≡ Some bytes) × (found ≡ length bytes)
+IsWrong files p (Digest path said found) = ⊥
+IsWrong files p (Unreadable path line) = ⊥
+
+-- what is wrong in the files: a line of the root, or the file of a package that it tells
 abbrev pub IsDamage : Files → Damage → Type 0
 IsDamage files (Unreadable path line) = (path ≡ root) × (text : List ℕ) × (files root ≡ Some text) × IsFirstBadLine text line
-IsDamage files (Missing path) = (p : Card) × IsListed files p × (path ≡ pool_name p.said.sha256) × (files path ≡ None)
-IsDamage files (Size path said found) = (p : Card) × IsListed files p × (path ≡ pool_name p.said.sha256) × (said ≡ p.said.size) × (said ≢ found)
-    × (bytes : List ℕ) × (files path ≡ Some bytes) × (found ≡ length bytes)
-IsDamage files (Digest path said found) = ⊥
+IsDamage files damage = (p : Card) × IsListed files p × IsWrong files p damage
 
 -- whatever the host: what was found differs from what is said
 abbrev pub IsDifference : Damage → Type 0
@@ -92,7 +96,7 @@ IsDifference (Digest path said found) = said ≢ found
 IsDifference (Missing path) = Unit {0}
 IsDifference (Unreadable path line) = Unit {0}
 
-abbrev pub DiffersIn : Result StateView LoadFault → Type 0
+abbrev pub DiffersIn : {T : Type 0} → Result T LoadFault → Type 0
 DiffersIn (Err (Damaged damage)) = IsDifference damage
 DiffersIn _ = Unit {0}
 
@@ -112,6 +116,20 @@ IsLoadOf text (Err (Damaged (Size path said found))) = ⊥
 IsLoadOf text (Err (Damaged (Digest path said found))) = ⊥
 IsLoadOf text (Err HostFault) = ⊥
 IsLoadOf text (Err OutOfMemory) = Unit {0}
+
+-- a look for the file of a package may answer this
+abbrev pub IsLookedFor : {T : Type 0} → Files → Card → Result T LoadFault → Type 0
+IsLookedFor files p (Ok x) = HasFile files p
+IsLookedFor files p (Err (Damaged damage)) = IsWrong files p damage
+IsLookedFor files p (Err HostFault) = Unit {0}
+IsLookedFor files p (Err OutOfMemory) = Unit {0}
+
+-- and one for the files of these packages
+abbrev pub AreLookedFor : {T : Type 0} → Files → List Card → Result T LoadFault → Type 0
+AreLookedFor files list (Ok x) = All (HasFile files) list
+AreLookedFor files list (Err (Damaged damage)) = (p : Card) × Contains list p × IsWrong files p damage
+AreLookedFor files list (Err HostFault) = Unit {0}
+AreLookedFor files list (Err OutOfMemory) = Unit {0}
 
 -- the fault of a load whose host gave this error
 abbrev pub of_host : HostErr → LoadFault
