@@ -1,2 +1,12 @@
 mod CommitLemmas
 mod ReadyLemmas
+mod SettleLemmas
+mod GrowLemmas
+mod Lawful
+mod RunLemmas
+mod SaveLemmas
+mod ListLemmas
+mod OpenLemmas
+mod CallLemmas
+mod LoadLemmas
+mod DecideLemmas
