@@ -5,3 +5,4 @@ pub mod Answers
 pub mod Card
 pub mod Order
 pub mod Left
+pub mod Whole
