@@ -1,5 +1,5 @@
 use super::*;
-use ap_host::{Bytes, Host, HostErr, InboxErr, MemHost, MemInbox, Op};
+use ap_host::{Bytes, Inbox, InboxErr, MemHost, MemInbox};
 use ap_text::SafePath;
 use digest_set::{Digests, Said, What, digest_of_hex};
 use stage_file::Stage;
