@@ -1,6 +1,8 @@
 -- Packages all of whose facts are known, and their texts.
-use Rattle.std.specs.Prelude.{◌≡◌, ℕ, ◌<◌, ◌^◌, true, List, length, IfSome}
-use Rattle.hex.specs.Hex.{IsBytes}
+use Rattle.std.specs.Prelude.{◌≡◌, ℕ, ◌<◌, ◌^◌, true, List, [], ◌∷◌, ◌++◌, codes, length, unwrap_or, IfSome}
+use Rattle.std.specs.Fmt.{decimal}
+use Rattle.hex.specs.Hex.{IsBytes, encode_lower}
+use Rattle.control_stanza.specs.declared.stanza.Field.{Field}
 use Rattle.digest_set.specs.declared.facts.Said.{Said}
 use Rattle.package_core.specs.Card.{Card, IsPackage, is_complete, package_text}
 
@@ -26,3 +28,16 @@ pub record IsWhole (p : Card) : Type 0 where
 pub record IsTextOf (bytes : List ℕ) (p : Card) : Type 0 where
   pub whole : IsWhole p
   pub text : package_text p ≡ bytes
+
+-- a field with its value
+abbrev pub field : List ℕ → List ℕ → Field
+field name value = record { name = name; value = value }
+
+-- what is known of the file, as fields
+unfoldable pub file_fields : Card → List Field
+file_fields p =
+    field (codes "Filename") p.file ∷ field (codes "Size") (decimal p.said.size)
+    ∷ field (codes "MD5sum") (encode_lower (unwrap_or p.said.md5 []))
+    ∷ field (codes "SHA1") (encode_lower (unwrap_or p.said.sha1 []))
+    ∷ field (codes "SHA256") (encode_lower p.said.sha256)
+    ∷ []

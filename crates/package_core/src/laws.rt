@@ -3,8 +3,9 @@ ghost use Rattle.std.specs.Prelude.{◌≡◌};
 ghost use Rattle.std.specs.Cmp.{IsTotalOrder};
 ghost use Rattle.std.specs.Ordering.{ordering_reverse, ordering_then, is_eq};
 ghost use Rattle.std.specs.declared.cmp.Ordering.TheVariants.{Less, Equal};
-ghost use Rattle.package_core.specs.Card.{Card, IsPackage};
+ghost use Rattle.package_core.specs.Card.{Card, IsPackage, package_text};
 ghost use Rattle.package_core.specs.Order.{package_cmp, triple_cmp, body_cmp, same_triple, IsTwin};
+ghost use Rattle.package_core.specs.Whole.{IsWhole};
 
 /// The order of packages is total: it answers the other way round for the other order of its arguments, it is transitive,
 /// and packages that are equal in it compare alike with every third.
@@ -28,4 +29,9 @@ pub fn triples_begin_the_order()
     ensures same { (a : Card) (b : Card) → same_triple a b ≡ is_eq (triple_cmp a b) }
     ensures total { IsTotalOrder triple_cmp }
     ensures begins { (a : Card) (b : Card) → package_cmp a b ≡ ordering_then (triple_cmp a b) (body_cmp a b) }
+{}
+
+/// The text of a package of which all is known is that of no other.
+pub fn texts_tell_packages_apart()
+    ensures { (a : Card) (b : Card) → IsWhole a → IsWhole b → package_text a ≡ package_text b → a ≡ b }
 {}

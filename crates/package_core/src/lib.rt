@@ -10,10 +10,14 @@ mod path;
 mod reading;
 mod said;
 mod source;
+mod stored;
 mod text;
 
 pub use fault::{CompleteFault, PackageFault, Required};
-pub use laws::{equal_packages_are_twins, package_order_is_total, triples_begin_the_order};
+pub use laws::{
+    equal_packages_are_twins, package_order_is_total, texts_tell_packages_apart,
+    triples_begin_the_order,
+};
 pub use order::{compare_packages, has_same_triple};
 pub use package::Package;
 

@@ -1,13 +1,15 @@
 //! A package.
-ghost use Rattle.std.specs.Prelude.{◌≡◌, None, IfOk, IfErr, OnOk, OnErr};
+ghost use Rattle.std.specs.Prelude.{◌≡◌, None, Some, IfOk, IfErr, IfSome, OnOk, OnErr};
 ghost use Rattle.digest_set.specs.Difference.{difference};
 ghost use Rattle.package_core.specs.Answers.{IsDifference};
-ghost use Rattle.package_core.specs.Card.{IsPackage, card_of, path_in, completed, source_of, triple as triple_of, package_text};
+ghost use Rattle.package_core.specs.Card.{Card, IsPackage, card_of, path_in, completed, source_of, triple as triple_of, package_text};
 ghost use Rattle.package_core.specs.Faults.{fault_of, FaultIs};
+ghost use Rattle.package_core.specs.Whole.{IsSaid, IsWhole, IsTextOf};
 
 use crate::fault::{CompleteFault, PackageFault};
 use crate::reading::read_package;
 use crate::source::parts;
+use crate::stored::package_of;
 use crate::text::text_of;
 use ap_text::{Name, SafePath};
 use control_stanza::{Stanza, Text};
@@ -46,6 +48,8 @@ impl Package {
     pub fn from_stanza(alloc: Global, stanza: &Stanza) -> Result<(Package, SafePath), PackageFault>
         ensures value { IfOk result (λ made. (made.0 ≡ card_of stanza.now) × (made.1 ≡ path_in stanza.now)) }
         ensures package { IfOk result (λ made. IsPackage made.0) }
+        // Where all four facts are said, the package is whole.
+        ensures said { IfOk result (λ made. IsSaid made.0.said) }
         ensures good { IfOk result (λ made. fault_of stanza.now ≡ None) }
         ensures fault { IfErr result (FaultIs (fault_of stanza.now)) }
     {
@@ -59,6 +63,8 @@ impl Package {
         ensures agrees { OnOk result (difference self.old.said found.now ≡ None) }
         ensures differs { IfErr result (IsDifference (difference self.old.said found.now)) }
         ensures err { OnErr result (self.new ≡ self.old) }
+        // What a stanza describes is whole then.
+        ensures whole { OnOk result (IsPackage self.old → IsWhole self.new) }
     {
         if let Some((what, said, found)) = mismatch(alloc, &self.said, found)? {
             return Err(CompleteFault::Differs(what, said, found));
@@ -115,6 +121,17 @@ impl Package {
         ensures { IfOk result (λ text. text ≡ package_text self.now) }
     {
         text_of(alloc, self)
+    }
+
+    /// The package whose text these bytes are, as [`text`](Package::text) gives it of a complete package; `None` where
+    /// they are the text of none. They have no bound. Fails only for want of memory.
+    pub fn read_text(alloc: Global, bytes: &[u8]) -> Result<Option<Package>, AllocError>
+        // What is read has this text.
+        ensures found { IfOk result (λ found. IfSome found (IsTextOf bytes.now)) }
+        // What has this text is read.
+        ensures only { (p : Card) → IsTextOf bytes.now p → IfOk result (λ found. found ≡ Some p) }
+    {
+        package_of(alloc, bytes)
     }
 
     /// The same package once more. Fails only for want of memory.

@@ -1,0 +1,139 @@
+-- A folder arrives: its index is read, and the files that the index names.
+use Rattle.std.specs.Prelude.{◌≡◌, ℕ, nat_lt, List, [], ◌∷◌, length, map, Option, Some, None, Result, Ok, Err, bytes_eq, codes, find, unwrap_or, if◌then◌else◌}
+use Rattle.std.specs.Option.{option_map}
+use Rattle.std.specs.Ordering.{is_eq}
+use Rattle.ap_text.specs.Paths.{below_folder}
+use Rattle.ap_host.specs.Disk.{Path, Content, Files}
+use Rattle.digest_set.specs.declared.facts.Digests.{Digests}
+use Rattle.digest_set.specs.declared.facts.What.{What}
+use Rattle.digest_set.specs.Facts.{digests_of}
+use Rattle.digest_set.specs.Difference.{difference}
+use Rattle.package_core.specs.Card.{Card, completed}
+use Rattle.package_core.specs.Order.{package_cmp}
+use Rattle.package_list.specs.declared.fault.ListFault.{ListFault}
+use Rattle.package_list.specs.declared.fault.ListFault.TheVariants as list_faults
+use Rattle.package_list.specs.Sorted.{equal_of}
+use Rattle.package_list.specs.Lists.{union}
+use Rattle.package_list.specs.Answers.{append_answer}
+use Rattle.machine_state.specs.declared.limit.Limit.{Limit as LimitKind}
+use Rattle.machine_state.specs.declared.limit.Limit.TheVariants.{Packages, Known, Catalogue, Index, File}
+use Rattle.machine_state.specs.declared.refusal.Refusal.{Refusal}
+use Rattle.machine_state.specs.declared.refusal.Refusal.TheVariants.{InputAbsent, InputMalformed, InputMismatch, Conflict, Limit}
+use Rattle.machine_state.specs.declared.repo.Repo.{Repo}
+use Rattle.machine_state.specs.Limits.{limit_number}
+use Rattle.machine_state.specs.State.{text_length, repo_of}
+use Rattle.machine_state.specs.Values.{StateView}
+use Rattle.local_repo.specs.Index.{Entry, packages_of, join_answer}
+
+-- the next step is made where this one went well
+abbrev pub then : {X Y : Type 0} → Result X Refusal → (X → Result Y Refusal) → Result Y Refusal
+then (Ok x) next = next x
+then (Err refusal) next = Err refusal
+
+-- the index of a folder
+abbrev pub index_path : Path → Path
+index_path folder = below_folder folder (codes "Packages")
+
+-- it is there, and not too long
+abbrev pub index_bytes : Path → Content → Result (List ℕ) Refusal
+index_bytes path None = Err (InputAbsent path)
+index_bytes path (Some bytes) = if nat_lt (limit_number Index) (length bytes) then Err (Limit Index) else Ok bytes
+
+abbrev pub or_malformed : {X : Type 0} → Path → Result X ℕ → Result X Refusal
+or_malformed path (Ok x) = Ok x
+or_malformed path (Err line) = Err (InputMalformed path line)
+
+-- it is readable
+abbrev pub index_entries : Path → List ℕ → Result (List Entry) Refusal
+index_entries path bytes = or_malformed path (packages_of bytes)
+
+-- a list that is joined refuses so
+abbrev pub list_refusal : ListFault → Refusal
+list_refusal (list_faults.Conflict triple) = Conflict triple
+list_refusal list_faults.Full = Limit Packages
+list_refusal list_faults.OutOfMemory = Limit Packages
+
+abbrev pub or_refused : {X : Type 0} → Result X ListFault → Result X Refusal
+or_refused (Ok x) = Ok x
+or_refused (Err fault) = Err (list_refusal fault)
+
+abbrev pub cards_of : List Entry → List Card
+cards_of entries = map (λ e. e.0) entries
+
+-- the path of the first package of the index that is equal to this one
+abbrev pub path_of : List Entry → Card → Path
+path_of entries p = unwrap_or (option_map (λ e. e.1) (find (λ e. is_eq (package_cmp e.0 p)) entries)) []
+
+-- the four facts of the file of a complete package
+abbrev pub facts_of : Card → Digests
+facts_of q = record { size = q.said.size; md5 = unwrap_or q.said.md5 []; sha1 = unwrap_or q.said.sha1 []; sha256 = q.said.sha256 }
+
+abbrev pub agreed : Path → Card → Digests → Option (What × List ℕ × List ℕ) → Result Card Refusal
+agreed path p found None = Ok (completed p found)
+agreed path p found (Some (what, said, other)) = Err (InputMismatch path what said other)
+
+-- the package with the facts that were found of its file, where they agree with what is stated
+abbrev pub compared : Path → Card → Digests → Result Card Refusal
+compared path p found = agreed path p found (difference p.said found)
+
+abbrev pub of_file : Path → Card → Content → Result Card Refusal
+of_file path p None = Err (InputAbsent path)
+of_file path p (Some bytes) = compared path p (digests_of bytes)
+
+-- the first known package whose file has this SHA-256
+abbrev pub known_of : List Card → List ℕ → Option Card
+known_of known sha256 = find (λ q. bytes_eq q.said.sha256 sha256) known
+
+-- what is known of the file serves, else it is read
+abbrev pub of_known_or_file : Path → Card → Option Card → Content → Result Card Refusal
+of_known_or_file path p (Some q) content = compared path p (facts_of q)
+of_known_or_file path p None content = of_file path p content
+
+-- the package as it is known, where an equal is known
+abbrev pub standing : List Card → Card → Card
+standing known p = unwrap_or (equal_of package_cmp known p) p
+
+-- one package of the index with its file at this path: the file isn't too large, and it has the stated facts
+unfoldable pub taken : Files → List Card → Path → Card → Result Card Refusal
+taken files known path p =
+    if nat_lt (limit_number File) p.said.size then Err (Limit File)
+    else then (of_known_or_file path p (known_of known p.said.sha256) (files path)) (λ made. Ok (standing known made))
+
+-- the packages in turn; the first that is refused decides
+abbrev pub each_taken : (Card → Result Card Refusal) → List Card → Result (List Card) Refusal
+each_taken take [] = Ok []
+each_taken take (p ∷ ps) = then (take p) (λ q. then (each_taken take ps) (λ qs. Ok (q ∷ qs)))
+
+-- the known packages aren't too many, and their texts not too long
+abbrev pub within_catalogue : List Card → Result (Unit {0}) Refusal
+within_catalogue known =
+    if nat_lt (limit_number Known) (length known) then Err (Limit Known)
+    else if nat_lt (limit_number Catalogue) (text_length known) then Err (Limit Catalogue)
+    else Ok tt
+
+-- the list can be added to the repository's own and to what is known
+unfoldable pub fitting : List Card → List Card → List Card → Result (List Card) Refusal
+fitting known own list =
+    then (or_refused (append_answer own list)) (λ _. then (within_catalogue (union known list)) (λ _. Ok list))
+
+-- the packages of a readable index
+unfoldable pub entries_arrive : Files → List Card → List Card → Path → List Entry → Result (List Card) Refusal
+entries_arrive files known own folder entries =
+    then (or_refused (join_answer (cards_of entries))) (λ joined.
+    then (each_taken (λ p. taken files known (below_folder folder (path_of entries p)) p) joined) (λ list. fitting known own list))
+
+abbrev pub list_in : Option Repo → List Card
+list_in None = []
+list_in (Some repo) = repo.list
+
+-- the list of the repository of that name
+abbrev pub list_of : StateView → List ℕ → List Card
+list_of state name = list_in (repo_of name state.repos)
+
+-- What arrives of a folder of these files: the packages of its index, each complete, or why they are refused. The steps are made in
+-- order, and the first that fails decides.
+unfoldable pub arrival : Files → StateView → List ℕ → Path → Result (List Card) Refusal
+arrival files state name folder =
+    then (index_bytes (index_path folder) (files (index_path folder))) (λ bytes.
+    then (index_entries (index_path folder) bytes) (λ entries.
+    entries_arrive files state.known (list_of state name) folder entries))
