@@ -26,9 +26,9 @@ use Rattle.machine_state.specs.Values.{StateView}
 use Rattle.local_repo.specs.Index.{Entry, packages_of, join_answer}
 
 -- the next step is made where this one went well
-abbrev pub then : {X Y : Type 0} → Result X Refusal → (X → Result Y Refusal) → Result Y Refusal
-then (Ok x) next = next x
-then (Err refusal) next = Err refusal
+abbrev pub and_then : {X Y : Type 0} → Result X Refusal → (X → Result Y Refusal) → Result Y Refusal
+and_then (Ok x) next = next x
+and_then (Err refusal) next = Err refusal
 
 -- the index of a folder
 abbrev pub index_path : Path → Path
@@ -97,12 +97,12 @@ standing known p = unwrap_or (equal_of package_cmp known p) p
 unfoldable pub taken : Files → List Card → Path → Card → Result Card Refusal
 taken files known path p =
     if nat_lt (limit_number File) p.said.size then Err (Limit File)
-    else then (of_known_or_file path p (known_of known p.said.sha256) (files path)) (λ made. Ok (standing known made))
+    else and_then (of_known_or_file path p (known_of known p.said.sha256) (files path)) (λ made. Ok (standing known made))
 
 -- the packages in turn; the first that is refused decides
 abbrev pub each_taken : (Card → Result Card Refusal) → List Card → Result (List Card) Refusal
 each_taken take [] = Ok []
-each_taken take (p ∷ ps) = then (take p) (λ q. then (each_taken take ps) (λ qs. Ok (q ∷ qs)))
+each_taken take (p ∷ ps) = and_then (take p) (λ q. and_then (each_taken take ps) (λ qs. Ok (q ∷ qs)))
 
 -- the known packages aren't too many, and their texts not too long
 abbrev pub within_catalogue : List Card → Result (Unit {0}) Refusal
@@ -114,13 +114,13 @@ within_catalogue known =
 -- the list can be added to the repository's own and to what is known
 unfoldable pub fitting : List Card → List Card → List Card → Result (List Card) Refusal
 fitting known own list =
-    then (or_refused (append_answer own list)) (λ _. then (within_catalogue (union known list)) (λ _. Ok list))
+    and_then (or_refused (append_answer own list)) (λ _. and_then (within_catalogue (union known list)) (λ _. Ok list))
 
 -- the packages of a readable index
 unfoldable pub entries_arrive : Files → List Card → List Card → Path → List Entry → Result (List Card) Refusal
 entries_arrive files known own folder entries =
-    then (or_refused (join_answer (cards_of entries))) (λ joined.
-    then (each_taken (λ p. taken files known (below_folder folder (path_of entries p)) p) joined) (λ list. fitting known own list))
+    and_then (or_refused (join_answer (cards_of entries))) (λ joined.
+    and_then (each_taken (λ p. taken files known (below_folder folder (path_of entries p)) p) joined) (λ list. fitting known own list))
 
 abbrev pub list_in : Option Repo → List Card
 list_in None = []
@@ -134,6 +134,6 @@ list_of state name = list_in (repo_of name state.repos)
 -- order, and the first that fails decides.
 unfoldable pub arrival : Files → StateView → List ℕ → Path → Result (List Card) Refusal
 arrival files state name folder =
-    then (index_bytes (index_path folder) (files (index_path folder))) (λ bytes.
-    then (index_entries (index_path folder) bytes) (λ entries.
+    and_then (index_bytes (index_path folder) (files (index_path folder))) (λ bytes.
+    and_then (index_entries (index_path folder) bytes) (λ entries.
     entries_arrive files state.known (list_of state name) folder entries))
