@@ -188,7 +188,7 @@ take_more_at (suc n) (y ∷ ys) x rest h = ap (λ l. y ∷ l) (take_more_at n ys
 pub last_at : {X : Type 0} (p : X → Bool) (n i : ℕ) (xs : List X) (x : X) (rest : List X) → i ≡ suc n → drop n xs ≡ x ∷ rest → last_is p (take i xs) ≡ p x
 last_at p n i xs x rest e h = ap (λ k. last_is p (take k xs)) e ∙ ap (last_is p) (take_more_at n xs x rest h) ∙ last_is_push p (take n xs) x
 
-triple_begins : (x y : Package) → package_cmp x y ≡ ordering_then (triple_cmp x y) (body_cmp x y)
+pub triple_begins : (x y : Package) → package_cmp x y ≡ ordering_then (triple_cmp x y) (body_cmp x y)
 unfolding package_cmp
 triple_begins x y = refl
 

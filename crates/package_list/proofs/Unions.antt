@@ -1,11 +1,12 @@
 -- What a union has, and that this says which list it is.
-use Rattle.std.proofs.Common.{◌≡◌, List, [], ◌∷◌, Bool, true, false, cond, Option, Some, None, refl, sym, ap, ◌∙◌, Ordering, Less, Equal, Greater}
+use Rattle.std.proofs.Common.{◌≡◌, ℕ, List, [], ◌∷◌, ◌++◌, take, drop, subst, Bool, true, false, cond, Option, Some, None, refl, sym, ap, ◌∙◌, Ordering, Less, Equal, Greater}
 use Rattle.std.specs.Ordering.{is_eq, ordering_reverse}
 use Rattle.std.specs.List.{filter}
 use Rattle.std.specs.Cmp.{IsTotalOrder}
-use Rattle.std.proofs.lemmas.Bool.{false≢true}
-use Rattle.package_list.specs.Sorted.{IsBelow, IsAscending, placed, put, union, equal_of, or_else, if_equal}
-use Rattle.package_list.proofs.SortedLemmas.{put_ascending, below_more, turned}
+use Rattle.std.proofs.lemmas.Bool.{false≢true, true≢false}
+use Rattle.std.proofs.lemmas.List.{take-append-drop}
+use Rattle.package_list.specs.Sorted.{IsBelow, IsAscending, AllLess, StartsAt, placed, put, union, equal_of, or_else, if_equal}
+use Rattle.package_list.proofs.SortedLemmas.{put_ascending, below_more, turned, ascending_drop}
 
 module _ {X : Type 0} {R : X → X → Ordering} (o : IsTotalOrder R) where
   after : (q x : X) → R q x ≡ Less → R x q ≡ Greater
@@ -68,6 +69,29 @@ module _ {X : Type 0} {R : X → X → Ordering} (o : IsTotalOrder R) where
   equal_of_union xs (y ∷ ys) q a =
       equal_of_union (put R xs y) ys q (put_ascending o xs y a) ∙ ap (λ e. or_else R e (equal_of R ys q)) (equal_of_put xs y q a)
       ∙ or_else_assoc (equal_of R xs q) (if_equal R y q) (equal_of R ys q) ∙ ap (or_else R (equal_of R xs q)) (cond_or (is_eq (R y q)) y (equal_of R ys q))
+
+  -- the equal of y stands at its place
+  equal_of_behind : (pre rest : List X) (y : X) → AllLess R pre y → equal_of R (pre ++ rest) y ≡ equal_of R rest y
+  equal_of_behind [] rest y h = refl
+  equal_of_behind (x ∷ pre) rest y h = rw h.0 (equal_of_behind pre rest y h.1)
+
+  equal_from : (xs : List X) (i : ℕ) (y : X) (rest : List X) → AllLess R (take i xs) y → drop i xs ≡ rest → equal_of R xs y ≡ equal_of R rest y
+  equal_from xs i y rest before e = ap (λ l. equal_of R l y) (sym (take-append-drop i xs) ∙ ap (λ l. take i xs ++ l) e) ∙ equal_of_behind (take i xs) rest y before
+
+  pub equal_at : (xs : List X) (i : ℕ) (x y : X) (rest : List X) → AllLess R (take i xs) y → drop i xs ≡ x ∷ rest → is_eq (R x y) ≡ true → Some x ≡ equal_of R xs y
+  equal_at xs i x y rest before e h = sym (equal_from xs i y (x ∷ rest) before e ∙ ap (λ b. cond b (Some x) (equal_of R rest y)) h)
+
+  pub none_at : (xs : List X) (i : ℕ) (x y : X) (rest : List X) → IsAscending R xs → AllLess R (take i xs) y → StartsAt R (drop i xs) y → drop i xs ≡ x ∷ rest → is_eq (R x y) ≡ false → None ≡ equal_of R xs y
+  none_at xs i x y rest a before starts e h =
+      sym (equal_from xs i y (x ∷ rest) before e ∙ none_behind x y rest (by_order (R x y) refl (subst (λ (l : List X). StartsAt R l y) e starts) h) (subst (IsAscending R) e (ascending_drop o i xs a)).0)
+    where
+      by_order : (r : Ordering) → R x y ≡ r → (R x y ≡ Less → ⊥) → is_eq (R x y) ≡ false → R y x ≡ Less
+      by_order Less g s h = absurd (s g)
+      by_order Equal g s h = absurd (true≢false (sym (ap is_eq g) ∙ h))
+      by_order Greater g s h = turned o x y g
+
+  pub none_past : (xs : List X) (i : ℕ) (y : X) → AllLess R (take i xs) y → drop i xs ≡ [] → None ≡ equal_of R xs y
+  none_past xs i y before e = sym (equal_from xs i y [] before e)
 
   -- a filter keeps the order
   below_filter : (p : X → Bool) (x : X) (xs : List X) → IsBelow R x xs → IsBelow R x (filter p xs)

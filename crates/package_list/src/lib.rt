@@ -1,7 +1,10 @@
 //! Lists of packages in their order, without equals, and how two of them are joined.
 #![tactic(auto)]
 
+mod apart;
+mod by_triple;
 mod fault;
+mod gather;
 mod join;
 mod laws;
 mod list;

@@ -2,13 +2,16 @@
 ghost use Rattle.std.specs.Prelude.{◌≡◌, ◌≤◌, IfOk, OnOk, OnErr, length, slice_get, [], ◌∷◌, MatchOption, Some, map};
 ghost use Rattle.std.specs.Rc.{rc_value};
 ghost use Rattle.package_core.specs.Order.{package_cmp};
-ghost use Rattle.package_list.specs.Sorted.{put, IsAscending};
+ghost use Rattle.std.specs.Option.{option_copied};
+ghost use Rattle.package_list.specs.Sorted.{put, IsAscending, equal_of};
 ghost use Rattle.package_list.specs.Lists.{union, without, has_member, merged, latest};
-ghost use Rattle.package_list.specs.Answers.{Answers, insert_answer, append_answer, size_answer};
+ghost use Rattle.package_list.specs.Answers.{Answers, insert_answer, append_answer, size_answer, join_answer};
 
+use crate::apart::apart_union_of;
 use crate::fault::ListFault;
-use crate::join::{clash_in, copy_items, union_of};
-use crate::place::{clashes_at, found_at, is_at, place_of};
+use crate::gather::{gathered, items_of};
+use crate::join::{copy_items, union_of};
+use crate::place::{clashes_at, equal_in, found_at, is_at, place_of};
 use crate::reduce::{latest_of, merge_of};
 use package_core::Package;
 use std::alloc::{AllocError, Global};
@@ -16,7 +19,7 @@ use std::marker::Model;
 use std::rc::Rc;
 
 /// The members that a list may have.
-const MOST: usize = 200_000;
+pub(crate) const MOST: usize = 200_000;
 
 /// The members that the list of all known packages may have.
 const MOST_KNOWN: usize = 400_000;
@@ -53,6 +56,18 @@ impl PackageList {
         }
     }
 
+    /// The packages joined in the order in which they stand; of equal ones the first stays. The first that can't join those
+    /// before it decides the fault: `Conflict` where none of those is its equal and one of them has its triple; else `Full`
+    /// where it would be the 200,001st member. It takes n log n comparisons, and moves each package once.
+    pub fn from_packages(alloc: Global, packages: Vec<Package>) -> Result<PackageList, ListFault>
+        ensures { Answers result (join_answer packages.items) }
+    {
+        let members = gathered(alloc, packages)?;
+        Ok(PackageList {
+            items: items_of(alloc, members)?,
+        })
+    }
+
     /// The number of members.
     pub fn len(&self) -> usize
         ensures { result ≡ length self.now }
@@ -68,6 +83,21 @@ impl PackageList {
             Some(rc) => Some(rc.as_ref()),
             None => None,
         }
+    }
+
+    /// All members in their order, shared, for a loop over them.
+    pub fn as_slice(&self) -> &[Rc<Package>]
+        ensures { map rc_value result.now ≡ self.now }
+    {
+        self.items.as_slice()
+    }
+
+    /// The member that is equal to the package in the order of packages; `None` exactly where none is. What is said of the
+    /// member's file, beside its SHA-256, may differ from what the package says. It takes no memory.
+    pub fn equal_of(&self, wanted: &Package) -> Option<&Package>
+        ensures { option_copied result ≡ equal_of package_cmp self.now wanted.now }
+    {
+        equal_in(&self.items, wanted)
     }
 
     /// The same list once more, with its packages shared. Fails only for want of memory.
@@ -113,10 +143,7 @@ impl PackageList {
         ensures ok { OnOk result (self.new ≡ union self.old later.now) }
         ensures err { OnErr result (self.new ≡ self.old) }
     {
-        let all = union_of(alloc, &self.items, &later.items)?;
-        if let Some(clash) = clash_in(&all, &later.items) {
-            return Err(ListFault::Conflict(clash.triple(alloc)?));
-        }
+        let all = apart_union_of(alloc, &self.items, &later.items)?;
         if all.len() > MOST {
             return Err(ListFault::Full);
         }

@@ -2,7 +2,8 @@
 ghost use Rattle.std.specs.Prelude.{◌≡◌, ◌≤◌, ◌<◌, ◌+◌, length, [], ◌∷◌, MatchOption, map, take, drop, remove, true, false};
 ghost use Rattle.std.specs.Rc.{rc_value};
 ghost use Rattle.package_core.specs.Order.{package_cmp, same_triple};
-ghost use Rattle.package_list.specs.Sorted.{IsAscending, IsBelow, AllLess, StartsAt, first_is, last_is};
+ghost use Rattle.std.specs.Option.{option_copied};
+ghost use Rattle.package_list.specs.Sorted.{IsAscending, IsBelow, AllLess, StartsAt, first_is, last_is, equal_of};
 ghost use Rattle.package_list.specs.Lists.{has_member, clashes, without};
 
 use package_core::{Package, compare_packages, has_same_triple};
@@ -67,6 +68,24 @@ pub(crate) fn found_at(items: &[Rc<Package>], wanted: &Package) -> Option<usize>
     }
 }
 
+/// The member that is equal to the package.
+pub(crate) fn equal_in<'a>(items: &'a [Rc<Package>], wanted: &Package) -> Option<&'a Package>
+    requires { IsAscending package_cmp (map rc_value items.now) }
+    ensures { option_copied result ≡ equal_of package_cmp (map rc_value items.now) wanted.now }
+{
+    let place = place_of(items, wanted);
+    match member_at(items, place) {
+        Some(member) => {
+            if compare_packages(member, wanted).is_eq() {
+                Some(member)
+            } else {
+                None
+            }
+        }
+        None => None,
+    }
+}
+
 /// Whether a member clashes with the package. Those of its triple stand around its place.
 pub(crate) fn clashes_at(items: &[Rc<Package>], place: usize, wanted: &Package) -> bool
     requires inside { place ≤ length items.now }
@@ -98,7 +117,7 @@ fn place_behind(items: &[Rc<Package>], place: usize, wanted: &Package) -> usize
     }
 }
 
-fn first_has_triple(items: &[Rc<Package>], place: usize, wanted: &Package) -> bool
+pub(crate) fn first_has_triple(items: &[Rc<Package>], place: usize, wanted: &Package) -> bool
     ensures { result ≡ first_is (λ q. same_triple q wanted.now) (drop place (map rc_value items.now)) }
 {
     match member_at(items, place) {
@@ -107,7 +126,7 @@ fn first_has_triple(items: &[Rc<Package>], place: usize, wanted: &Package) -> bo
     }
 }
 
-fn last_has_triple(items: &[Rc<Package>], place: usize, wanted: &Package) -> bool
+pub(crate) fn last_has_triple(items: &[Rc<Package>], place: usize, wanted: &Package) -> bool
     requires { place ≤ length items.now }
     ensures { result ≡ last_is (λ q. same_triple q wanted.now) (take place (map rc_value items.now)) }
 {
