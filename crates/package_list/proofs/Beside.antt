@@ -11,7 +11,7 @@ use Rattle.package_core.specs.declared.package.Package.{Package}
 use Rattle.package_core.specs.Order.{package_cmp, triple_cmp, body_cmp, same_triple}
 use Rattle.package_core.proofs.OrderLaws.{triple_total, package_total, same_triple-is}
 use Rattle.package_list.specs.Lists.{clashes}
-use Rattle.package_list.proofs.SortedLemmas.{has_behind, turned, ascending_drop, below_more}
+use Rattle.package_list.proofs.SortedLemmas.{has_at, has_behind, turned, ascending_drop, below_more}
 
 -- functions that agree everywhere are one
 pub agreeing : {A B : Type 0} {f g : A → B} → ((x : A) → f x ≡ g x) → f ≡ g
@@ -213,7 +213,12 @@ clash_beside xs i j p a before above same =
 pub behind_equal : (x p : Package) (xs rest : List Package) → xs ≡ x ∷ rest → IsAscending package_cmp xs → is_eq (package_cmp x p) ≡ true → IsBelow package_cmp p rest
 behind_equal x p xs rest e a h = above_equal body_cmp triple_total package_total triple_begins x p rest (subst (IsAscending package_cmp) e a).0 h
 
-pub behind_other : (x p : Package) (xs rest : List Package) → xs ≡ x ∷ rest → IsAscending package_cmp xs → StartsAt package_cmp xs p → is_eq (package_cmp x p) ≡ false → IsBelow package_cmp p xs
-behind_other x p xs rest e a s h =
-    subst (IsBelow package_cmp p) (sym e)
-    (above_other body_cmp triple_total package_total triple_begins x p rest (subst (IsAscending package_cmp) e a).0 (subst (λ (l : List Package). StartsAt package_cmp l p) e s) h)
+-- what stands at the place of a package without an equal is greater
+pub above_new : (xs : List Package) (i : ℕ) (p : Package) → IsAscending package_cmp xs → AllLess package_cmp (take i xs) p → StartsAt package_cmp (drop i xs) p → has package_cmp xs p ≡ false → IsBelow package_cmp p (drop i xs)
+above_new xs i p a before starts none = by_rest (drop i xs) refl
+  where
+    by_rest : (rest : List Package) → drop i xs ≡ rest → IsBelow package_cmp p rest
+    by_rest [] e = tt
+    by_rest (x ∷ rest) e =
+        above_other body_cmp triple_total package_total triple_begins x p rest (subst (IsAscending package_cmp) e (ascending_drop package_total i xs a)).0
+        (subst (λ (l : List Package). StartsAt package_cmp l p) e starts) (sym (has_at package_total xs i x p rest a before starts e) ∙ none)

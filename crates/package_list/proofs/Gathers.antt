@@ -4,7 +4,7 @@ use Rattle.std.specs.Ordering.{is_eq, ordering_then, ordering_reverse, match_ord
 use Rattle.std.specs.List.{list_any, find, AllByRecursion}
 use Rattle.std.specs.List.Sorted.{IsStrictlySortedBy}
 use Rattle.std.specs.Option.{option_or}
-use Rattle.std.specs.Result.{OnOk}
+use Rattle.std.specs.Result.{OnOk, MatchResult}
 use Rattle.std.specs.BTreeSet.{insert_key}
 use Rattle.std.specs.Cmp.{IsTotalOrder}
 use Rattle.std.proofs.lemmas.Bool.{true≢false, false≢true}
@@ -99,6 +99,13 @@ refused before p =
     let l : Bool = nat_lt (length (joined before)) 200000 in
     (λ i. cond (has_joined before p i) None (cond (clashes_joined before p i) (Some (Conflict (triple p))) (cond l None (Some Full))))
     ∙ by_tests p (has_member (joined before) p) (clashes (joined before) p) l
+
+pub refused_in_turn : (before : List Package) (p : Package) → MatchResult (insert_answer (joined before) p) (λ _. refusal before p ≡ None) (λ e. refusal before p ≡ Some e)
+refused_in_turn before p = by_answer (insert_answer (joined before) p) (refused before p)
+  where
+    by_answer : (r : Result Bool ListFault) → refusal before p ≡ err_part r → MatchResult r (λ _. refusal before p ≡ None) (λ e. refusal before p ≡ Some e)
+    by_answer (Ok b) h = h
+    by_answer (Err e) h = h
 
 pub goes_on : (before rest : List Package) (p : Package) (w : Option ListFault) (b : Bool) → first_refusal before (p ∷ rest) ≡ w → insert_answer (joined before) p ≡ Ok b → first_refusal (before ++ p ∷ []) rest ≡ w
 goes_on before rest p w b h e = ap (λ r. option_or r (first_refusal (before ++ p ∷ []) rest)) (sym (refused before p ∙ ap err_part e)) ∙ h

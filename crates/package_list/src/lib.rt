@@ -14,5 +14,5 @@ mod reduce;
 mod tests;
 
 pub use fault::ListFault;
-pub use laws::unions_have_what_either_has;
+pub use laws::{packages_join_in_turn, unions_have_what_either_has};
 pub use list::PackageList;
