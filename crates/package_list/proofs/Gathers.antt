@@ -6,8 +6,6 @@ use Rattle.std.specs.List.Sorted.{IsStrictlySortedBy}
 use Rattle.std.specs.Option.{option_or}
 use Rattle.std.specs.Result.{OnOk, MatchResult}
 use Rattle.std.specs.BTreeSet.{insert_key}
-use Rattle.std.specs.Cmp.{IsTotalOrder}
-use Rattle.std.proofs.lemmas.Bool.{true≢false, false≢true}
 use Rattle.package_core.specs.declared.package.Package.{Package}
 use Rattle.package_core.specs.Card.{triple}
 use Rattle.package_core.specs.Order.{package_cmp, triple_cmp, body_cmp, same_triple}

@@ -1,7 +1,7 @@
 -- One pass over two lists, while no member of the second clashes in the union.
-use Rattle.std.proofs.Common.{◌≡◌, ℕ, List, [], ◌∷◌, ◌++◌, length, arith, take, drop, append_assoc, Bool, true, false, cond, not, ◌&&◌, ◌||◌, Option, Some, None, Result, Ok, Err, refl, sym, ap, ◌∙◌, subst, Ordering, Less, Equal, Greater}
-use Rattle.std.specs.Ordering.{is_eq, ordering_reverse}
-use Rattle.std.specs.List.{list_any, find}
+use Rattle.std.proofs.Common.{◌≡◌, ℕ, List, [], ◌∷◌, ◌++◌, length, arith, take, drop, append_assoc, Bool, true, false, cond, not, ◌&&◌, ◌||◌, Some, None, Result, Ok, Err, refl, sym, ap, ◌∙◌, subst, Less, Equal, Greater}
+use Rattle.std.specs.Ordering.{is_eq}
+use Rattle.std.specs.List.{list_any}
 use Rattle.std.proofs.lemmas.Cmp.{tied_itself}
 use Rattle.std.proofs.lemmas.List.{take_all, drop_all}
 use Rattle.package_core.specs.declared.package.Package.{Package}
@@ -21,11 +21,11 @@ pub ends_in : (xs : List Package) (n : ℕ) (p : Package) → n ≡ length xs �
 ends_in xs n p e a h =
     let whole : take n xs ≡ xs = take_all n xs (omega (arith, e)) in
     let past : drop n xs ≡ [] = drop_all n xs (omega (arith, e)) in
-    sym (clash_beside xs n n p a (subst (λ (l : List Package). AllLess package_cmp l p) (sym whole) h) (subst (IsBelow package_cmp p) (sym past) tt) refl
+    sym (clash_beside xs n p a (subst (λ (l : List Package). AllLess package_cmp l p) (sym whole) h) (subst (IsBelow package_cmp p) (sym past) tt)
     ∙ ap (λ l. last_is (λ q. same_triple q p) (take n xs) || first_is (λ q. same_triple q p) l) past ∙ or_false (last_is (λ q. same_triple q p) (take n xs)))
 
 pub begins_in : (xs : List Package) (p : Package) → IsAscending package_cmp xs → IsBelow package_cmp p xs → first_is (λ q. same_triple q p) xs ≡ clashes xs p
-begins_in xs p a b = sym (clash_beside xs 0 0 p a tt b refl)
+begins_in xs p a b = sym (clash_beside xs 0 p a tt b)
 
 any_append : (f : Package → Bool) (xs ys : List Package) → list_any f (xs ++ ys) ≡ (list_any f xs || list_any f ys)
 any_append f [] ys = refl

@@ -1,5 +1,5 @@
 -- What the calls of a list make of it, in terms of its members.
-use Rattle.std.specs.Prelude.{List, [], ◌∷◌, Bool, IsTrue, ◌&&◌, not, bytes_eq}
+use Rattle.std.specs.Prelude.{List, [], Bool, IsTrue, ◌&&◌, not, bytes_eq}
 use Rattle.std.specs.List.{list_any, filter}
 use Rattle.std.specs.Ordering.{is_eq, is_lt}
 use Rattle.package_core.specs.Card.{Card}
