@@ -1,5 +1,5 @@
 -- What is answered of bytes that are compared.
-use Rattle.std.proofs.Common.{◌≡◌, ◌≢◌, ℕ, Bool, true, false, List, [], length, Option, Some, None, nat_eq, bytes_eq, if◌then◌else◌, Ok, option_map, refl, sym, ◌∙◌, ap, subst}
+use Rattle.std.proofs.Common.{◌≡◌, ◌≢◌, ℕ, Bool, true, false, List, [], length, Option, Some, None, nat_eq, bytes_eq, if◌then◌else◌, Result, Ok, Err, IfOk, option_map, refl, sym, ◌∙◌, ap, subst}
 use Rattle.std.specs.Fmt.{decimal}
 use Rattle.std.specs.Option.{option_or}
 use Rattle.std.proofs.lemmas.Slice.Eq.{bytes_eq-Decides}
@@ -15,7 +15,7 @@ use Rattle.digest_set.specs.Facts.{digests_of}
 use Rattle.ap_host.specs.Disk.{Content}
 use Rattle.hash_pool.specs.declared.fault.PoolFault.{PoolFault}
 use Rattle.hash_pool.specs.declared.fault.PoolFault.TheVariants.{Mismatch}
-use Rattle.hash_pool.specs.Answers.{IsRefused, IsAnswer, IsDifference}
+use Rattle.hash_pool.specs.Answers.{IsRefused, IsAnswer, IsDifference, IsPut}
 use Rattle.hash_pool.specs.Reading.{IsReadTo}
 use Rattle.hash_pool.proofs.ReadLemmas.{read_whole}
 
@@ -83,3 +83,18 @@ found_whole None n bytes len read = absurd (cc)
 found_whole (Some c) n bytes len read =
     let size : n ≡ length c = cc in
     ap (λ (x : List ℕ). Some x) (sym (read_whole (Some c) n bytes c refl size read))
+
+-- the facts that are answered of bytes
+
+pub same_of : (said : Said) (bytes : List ℕ) (d : Digests) → IsAnswer (Some bytes) said (Ok d) → (b : List ℕ) → b ≡ bytes → IsPut bytes said b
+same_of said bytes d a b is =
+    let some : Some bytes ≡ Some a.0 = a.1 in
+    let own : bytes ≡ a.0 = cc in
+    (is, subst (λ (x : Digests). difference said x ≡ None) (a.2 ∙ ap (λ (x : List ℕ). digests_of x) (sym (is ∙ own))) a.3)
+
+pub facts_of : (said : Said) (bytes : List ℕ) (r : Result Digests PoolFault) → IsAnswer (Some bytes) said r → (b : List ℕ) → b ≡ bytes → IfOk r (λ d. d ≡ digests_of b)
+facts_of said bytes (Ok d) a b is =
+    let some : Some bytes ≡ Some a.0 = a.1 in
+    let own : bytes ≡ a.0 = cc in
+    a.2 ∙ ap (λ (x : List ℕ). digests_of x) (sym (is ∙ own))
+facts_of said bytes (Err e) a b is = tt

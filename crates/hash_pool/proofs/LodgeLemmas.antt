@@ -33,6 +33,7 @@ module _ (G : List ℕ → Type 0) (digest : List ℕ) where
     target = inl refl;
     whole = inl refl;
     held = subst (λ v. OnOk v (IsHeld G digest l (extended [] l))) (sym is) tt;
+    stage = inl (refl, refl);
     marked = inr (refl, refl);
     step = still_step s l;
   }
@@ -49,13 +50,14 @@ module _ (G : List ℕ → Type 0) (digest : List ℕ) where
     target = inl refl;
     whole = inl refl;
     held = (bytes, given, is, ap (λ (k : Log). live_of k (pool_name digest)) (extended-none l) ∙ there bytes (live_of l (pool_name digest)) some);
+    stage = inl (refl, refl);
     marked = inr (refl, refl);
     step = still_step s l;
   }
 
   -- as of another result
   pub lodges_ok : {T U E F : Type 0} (s t : StageState) (v : T) (w : U) (l : Log) (a : List Op) → Lodges {T = T} {E = E} G digest s t (Ok v) l a → Lodges {T = U} {E = F} G digest s t (Ok w) l a
-  lodges_ok s t v w l a h = record { grows = h.grows; kept = h.kept; target = h.target; whole = h.whole; held = h.held; marked = h.marked; step = h.step }
+  lodges_ok s t v w l a h = record { grows = h.grows; kept = h.kept; target = h.target; whole = h.whole; held = h.held; stage = h.stage; marked = h.marked; step = h.step }
 
   pub lodges_fails : {T U E F : Type 0} (s t : StageState) (q : Result T E) (r : Result U F) (e : F) (l : Log) (a : List Op) → r ≡ Err e → Lodges G digest s t q l a → Lodges G digest s t r l a
   lodges_fails s t q r e l a is h = record {
@@ -64,6 +66,7 @@ module _ (G : List ℕ → Type 0) (digest : List ℕ) where
     target = h.target;
     whole = h.whole;
     held = subst (λ v. OnOk v (IsHeld G digest l (extended a l))) (sym is) tt;
+    stage = h.stage;
     marked = h.marked;
     step = h.step;
   }
@@ -75,6 +78,7 @@ module _ (G : List ℕ → Type 0) (digest : List ℕ) where
     target = h.target;
     whole = elim h.whole [ inl none ↦ inl none | inr w ↦ inr (w.0, f w.0 w.1, w.2, w.3) ];
     held = held_as r h.held;
+    stage = h.stage;
     marked = h.marked;
     step = h.step;
   }
@@ -129,8 +133,9 @@ lodges_set {T = T} {E = E} bytes digest s t r l a is none h = record {
   target = elim h.target [ inl e ↦ inl e | inr e ↦ inr e.0 ];
   whole = inr (bytes, refl, is, Onward-start (SetsOne path bytes) l a onward);
   held = held_of r h.set;
-  marked = inl h.marked;
-  step = λ before out. absurd (clash t.touched h.marked out);
+  stage = inr h.stage;
+  marked = inl touched;
+  step = λ before out. absurd (clash t.touched touched out);
 }
   where
     path : Path
@@ -141,6 +146,9 @@ lodges_set {T = T} {E = E} bytes digest s t r l a is none h = record {
 
     onward : Onward (SetsOne path bytes) l a
     onward = h.onward (name_not_staged digest)
+
+    touched : IsTrue t.touched
+    touched = ap (λ (x : StageState). x.touched) h.stage
 
     clash : (b : Bool) → IsTrue b → IsFalse b → ⊥
     clash b t_is f_is = let both : true ≡ false = sym t_is ∙ f_is in cc

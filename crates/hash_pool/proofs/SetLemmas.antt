@@ -7,7 +7,7 @@ use Rattle.ap_host.specs.Disk.{Path, Content, with_file, moved, Log, live_of, ex
 use Rattle.ap_host.specs.Changes.{EachOp, SameExcept}
 use Rattle.ap_host.proofs.DiskLemmas.{with_file-same, extended-append}
 use Rattle.ap_host.proofs.ChangeLemmas.{EachOp-append, EachOp-map, part_touches, did_part, did_ok, same_after}
-use Rattle.stage_file.specs.Stage.{StageState, stage_path, is_staged, LaysAt, IsLaid, Lays, Places}
+use Rattle.stage_file.specs.Stage.{StageState, counted, stage_path, is_staged, LaysAt, IsLaid, Lays, Places}
 use Rattle.stage_file.proofs.StageLemmas.{lays_only, live_step_of}
 use Rattle.hash_pool.specs.Growth.{targets, Onward}
 use Rattle.hash_pool.specs.Lodging.{SetsOne, IsSetting, Sets}
@@ -68,13 +68,13 @@ lay_targets p (Claim b ∷ a) each = absurd each.0
 
 -- a laying that broke off
 pub sets_broken : {T E : Type 0} (n : ℕ) (path : Path) (bytes : List ℕ) (old new : StageState) (r : Result T E) (e : E) (l : Log) (a : List Op)
-    → r ≡ Err e → IsTrue new.touched → EachOp (LaysAt (stage_path n)) a → Sets path bytes old new r l a
-sets_broken n path bytes old new r e l a is touched each = record {
+    → r ≡ Err e → new ≡ counted old → EachOp (LaysAt (stage_path n)) a → Sets path bytes old new r l a
+sets_broken n path bytes old new r e l a is stage each = record {
   kinds = lay_kinds n path a each;
   target = inl (lay_targets (stage_path n) a each);
   onward = lay_onward n path bytes l a each;
   set = subst (λ v. OnOk v (live_of (extended a l) path ≡ Some bytes)) (sym is) tt;
-  marked = touched;
+  stage = stage;
 }
 
 -- the staged file is renamed
@@ -126,8 +126,8 @@ module _ {T : Type 0} (n : ℕ) (path : Path) (bytes : List ℕ) (l : Log) (ops 
 
 -- it was laid and renamed, or the renaming broke off
 pub sets_placed : {T U : Type 0} (n : ℕ) (path : Path) (bytes : List ℕ) (old new : StageState) (v : T) (r : Result U HostErr) (l : Log) (a b : List Op)
-    → IsTrue new.touched → Lays (stage_path n) bytes (Ok v) l a → Places (stage_path n) path r (extended a l) b → Sets path bytes old new r l (a ++ b)
-sets_placed n path bytes old new v r l a b touched lays places =
+    → new ≡ counted old → Lays (stage_path n) bytes (Ok v) l a → Places (stage_path n) path r (extended a l) b → Sets path bytes old new r l (a ++ b)
+sets_placed n path bytes old new v r l a b stage lays places =
     let laid : IsLaid (stage_path n) bytes (extended a l) = lays.laid in
     let none = lay_targets (stage_path n) a lays.only in
     let all = targets-append a b ∙ ap (λ (x : List Path). x ++ targets b) none in
@@ -137,7 +137,7 @@ sets_placed n path bytes old new v r l a b touched lays places =
       target = elim (place_target n path bytes (extended a l) b r laid places) [ inl e ↦ inl (all ∙ e) | inr e ↦ inr (all ∙ e.0, at_end e.1) ];
       onward = λ out. Onward-append (SetsOne path bytes) (sets_then path bytes) l a b (lay_onward n path bytes l a lays.only out) (place_onward n path bytes (extended a l) b r laid places out);
       set = on_ok_map r at_end (place_done n path bytes (extended a l) b r laid places);
-      marked = touched;
+      stage = stage;
     }
   where
     on_ok_map : {X P Q : Type 0} (s : Result X HostErr) → (P → Q) → OnOk s P → OnOk s Q
