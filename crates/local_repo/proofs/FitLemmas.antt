@@ -106,7 +106,7 @@ appends own list h = by_clash (first_clash (union own list) list) refl h
   where
     by_size : (b : Bool) → nat_lt 200000 (length (union own list)) ≡ b → sized b ≡ Ok tt → length (union own list) ≤ limit_number Packages
     by_size true e g = cc
-    by_size false e g = ltb-false e
+    by_size false e g = ltb-false 200000 (length (union own list)) e
 
     by_clash : (c : Option Card) → first_clash (union own list) list ≡ c → conflict_or c (size_answer 200000 (union own list)) ≡ Ok tt → Appends own list
     by_clash (Some p) e g = cc

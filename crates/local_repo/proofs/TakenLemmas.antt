@@ -35,12 +35,15 @@ both_none : {X : Type 0} (a b : Option X) → option_or a b ≡ None → (a ≡ 
 both_none None b h = (refl, h)
 both_none (Some x) b h = cc
 
+abbrev picked : {Y : Type 0} → Bool → Y → Option Y
+picked b y = cond b None (Some y)
+
 agrees : {X : Type 0} (same : X → X → Bool) (text : X → List ℕ) (what : What) (s f : X) → otherwise same text what (Some s) f ≡ None → same s f ≡ true
-agrees same text what s f h = by_test (same s f) h
+agrees same text what s f h = let t : What × List ℕ × List ℕ = (what, text s, text f) in by_test t (same s f) h
   where
-    by_test : (b : Bool) → cond b None (Some (what, text s, text f)) ≡ None → b ≡ true
-    by_test true h = refl
-    by_test false h = cc
+    by_test : (t : What × List ℕ × List ℕ) (b : Bool) → picked b t ≡ None → b ≡ true
+    by_test t true h = refl
+    by_test t false h = cc
 
 pub record Agrees (said : Said) (found : Digests) : Type 0 where
   pub size : said.size ≡ found.size
@@ -51,7 +54,7 @@ unfolding difference
 no_difference said found h =
     let a = both_none (otherwise nat_eq decimal Size (Some said.size) found.size) _ h in
     let b = both_none (otherwise bytes_eq encode_lower Sha256 (Some said.sha256) found.sha256) _ a.1 in
-    record { size = eqb-true (agrees nat_eq decimal Size said.size found.size a.0); sha256 = eq_bytes said.sha256 found.sha256 (agrees bytes_eq encode_lower Sha256 said.sha256 found.sha256 b.0) }
+    record { size = eqb-true said.size found.size (agrees nat_eq decimal Size said.size found.size a.0); sha256 = eq_bytes said.sha256 found.sha256 (agrees bytes_eq encode_lower Sha256 said.sha256 found.sha256 b.0) }
 
 -- ---- facts
 -- digests of the right sizes
@@ -62,14 +65,14 @@ pub record AreDigests (found : Digests) : Type 0 where
 pub of_bytes : (bytes : List ℕ) → AreDigests (digests_of bytes)
 of_bytes bytes = record { sha1 = sha1_digest bytes; md5 = md5_digest bytes }
 
-there : {P : List ℕ → Type 0} (o : Option (List ℕ)) → is_some o ≡ true → IfSome o P → P (unwrap_or o [])
-there None h p = cc
-there (Some x) h p = p
+there : (P : List ℕ → Type 0) (o : Option (List ℕ)) → is_some o ≡ true → IfSome o P → P (unwrap_or o [])
+there P None h p = cc
+there P (Some x) h p = p
 
 pub of_card : (q : Card) → IsWhole q → AreDigests (facts_of q)
 of_card q w =
     let parts = and_parts (is_some q.said.sha1) (is_some q.said.md5) w.complete in
-    record { sha1 = there {P = IsDigest 20} q.said.sha1 parts.0 w.said.sha1; md5 = there {P = IsDigest 16} q.said.md5 parts.1 w.said.md5 }
+    record { sha1 = there (IsDigest 20) q.said.sha1 parts.0 w.said.sha1; md5 = there (IsDigest 16) q.said.md5 parts.1 w.said.md5 }
 
 -- ---- the completed package
 pub completed_whole : (p : Card) (found : Digests) → IsPackage p → IsSaid p.said → AreDigests found → difference p.said found ≡ None → IsWhole (completed p found)

@@ -14,7 +14,7 @@ use Rattle.package_list.specs.declared.fault.ListFault.{ListFault}
 use Rattle.package_list.specs.declared.fault.ListFault.TheVariants as list_faults
 use Rattle.package_list.specs.Sorted.{equal_of}
 use Rattle.package_list.specs.Lists.{union}
-use Rattle.package_list.specs.Answers.{append_answer}
+use Rattle.package_list.specs.Answers.{append_answer, join_answer}
 use Rattle.machine_state.specs.declared.limit.Limit.{Limit as LimitKind}
 use Rattle.machine_state.specs.declared.limit.Limit.TheVariants.{Packages, Known, Catalogue, Index, File}
 use Rattle.machine_state.specs.declared.refusal.Refusal.{Refusal}
@@ -23,7 +23,11 @@ use Rattle.machine_state.specs.declared.repo.Repo.{Repo}
 use Rattle.machine_state.specs.Limits.{limit_number}
 use Rattle.machine_state.specs.State.{text_length, repo_of}
 use Rattle.machine_state.specs.Values.{StateView}
-use Rattle.local_repo.specs.Index.{Entry, packages_of, join_answer}
+use Rattle.index_text.specs.Index.{Lists, IsAt}
+
+-- a package that an index describes, and the path of its file below the folder of the index
+abbrev pub Entry : Type 0
+Entry = Card × List ℕ
 
 -- the next step is made where this one went well
 abbrev pub and_then : {X Y : Type 0} → Result X Refusal → (X → Result Y Refusal) → Result Y Refusal
@@ -39,13 +43,14 @@ abbrev pub index_bytes : Path → Content → Result (List ℕ) Refusal
 index_bytes path None = Err (InputAbsent path)
 index_bytes path (Some bytes) = if nat_lt (limit_number Index) (length bytes) then Err (Limit Index) else Ok bytes
 
+-- what an index says: its packages with the paths of their files, or the first line that can't stand there
+abbrev pub IsIndex : List ℕ → Result (List Entry) ℕ → Type 0
+IsIndex text (Ok entries) = Lists text entries
+IsIndex text (Err line) = IsAt text line
+
 abbrev pub or_malformed : {X : Type 0} → Path → Result X ℕ → Result X Refusal
 or_malformed path (Ok x) = Ok x
 or_malformed path (Err line) = Err (InputMalformed path line)
-
--- it is readable
-abbrev pub index_entries : Path → List ℕ → Result (List Entry) Refusal
-index_entries path bytes = or_malformed path (packages_of bytes)
 
 -- a list that is joined refuses so
 abbrev pub list_refusal : ListFault → Refusal
@@ -130,10 +135,19 @@ list_in (Some repo) = repo.list
 abbrev pub list_of : StateView → List ℕ → List Card
 list_of state name = list_in (repo_of name state.repos)
 
+-- what comes of an index that says this
+abbrev pub index_arrives : Files → StateView → List ℕ → Path → Result (List Entry) ℕ → Result (List Card) Refusal
+index_arrives files state name folder index =
+    and_then (or_malformed (index_path folder) index) (λ entries. entries_arrive files state.known (list_of state name) folder entries)
+
+-- what comes of the bytes of an index, where it is there
+abbrev pub BytesArrive : Files → StateView → List ℕ → Path → Result (List ℕ) Refusal → Result (List Card) Refusal → Type 0
+BytesArrive files state name folder (Ok bytes) arrived =
+    (index : Result (List Entry) ℕ) × IsIndex bytes index × (arrived ≡ index_arrives files state name folder index)
+BytesArrive files state name folder (Err refusal) arrived = arrived ≡ Err refusal
+
 -- What arrives of a folder of these files: the packages of its index, each complete, or why they are refused. The steps are made in
 -- order, and the first that fails decides.
-unfoldable pub arrival : Files → StateView → List ℕ → Path → Result (List Card) Refusal
-arrival files state name folder =
-    and_then (index_bytes (index_path folder) (files (index_path folder))) (λ bytes.
-    and_then (index_entries (index_path folder) bytes) (λ entries.
-    entries_arrive files state.known (list_of state name) folder entries))
+unfoldable pub Arrives : Files → StateView → List ℕ → Path → Result (List Card) Refusal → Type 0
+Arrives files state name folder arrived =
+    BytesArrive files state name folder (index_bytes (index_path folder) (files (index_path folder))) arrived
