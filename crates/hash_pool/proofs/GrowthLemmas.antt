@@ -4,7 +4,7 @@ use Rattle.std.specs.List.{AllByRecursion}
 use Rattle.sha2.specs.Sha256.{sha256}
 use Rattle.ap_host.specs.declared.host.Op.{Op}
 use Rattle.ap_host.specs.declared.host.Op.TheVariants.{Create, Append, Sync, Rename, Remove, Barrier, Say, Claim}
-use Rattle.ap_host.specs.Disk.{Path, Content, Log, disk_of, live_of, extended}
+use Rattle.ap_host.specs.Disk.{Path, Content, Log, disk_of, live_of, extended, said}
 use Rattle.ap_host.specs.Changes.{EachOp}
 use Rattle.ap_host.proofs.DiskLemmas.{extended-append, Throughout-map}
 use Rattle.ap_host.proofs.ChangeLemmas.{EachOp-append, EachOp-map}
@@ -84,6 +84,17 @@ targets_new l (Barrier ∷ a) each = absurd each.0
 targets_new l (Say bytes ∷ a) each = absurd each.0
 targets_new l (Claim got ∷ a) each = absurd each.0
 
+taking_quiet : (l : Log) (ops : List Op) → EachOp (IsTaking l) ops → said ops ≡ []
+taking_quiet l [] each = refl
+taking_quiet l (Rename p q ∷ a) each = taking_quiet l a each.1
+taking_quiet l (Create p ∷ a) each = taking_quiet l a each.1
+taking_quiet l (Append p bytes ∷ a) each = taking_quiet l a each.1
+taking_quiet l (Sync p ∷ a) each = taking_quiet l a each.1
+taking_quiet l (Remove p ∷ a) each = absurd each.0
+taking_quiet l (Barrier ∷ a) each = absurd each.0
+taking_quiet l (Say bytes ∷ a) each = absurd each.0
+taking_quiet l (Claim got ∷ a) each = absurd each.0
+
 all_append : (P : Path → Type 0) (a b : List Path) → AllByRecursion P a → AllByRecursion P b → AllByRecursion P (a ++ b)
 all_append P [] b p q = q
 all_append P (x ∷ a) b p q = (p.0, all_append P a b p.1 q)
@@ -151,6 +162,9 @@ law_of_growth = record {
   none = grows_none;
   then = grows_then;
   moments = λ l ops g. Onward-start HasGrown l ops g.onward;
+  images = λ l m g f image p out. g.may p (f p) out (image p);
+  quiet = λ l ops g. taking_quiet l ops g.kinds;
+  new = λ l ops g. targets_new l ops g.kinds;
   stays = stays;
   elsewhere = elsewhere;
   unmoved = unmoved;

@@ -27,7 +27,10 @@ fn host(alloc: Global, failing: Vec<u64>) -> Result<MemHost, AllocError> {
 /// An inbox with the file `in/abc` of three bytes.
 fn inbox(alloc: Global, failing: Vec<u64>) -> Result<MemInbox, AllocError> {
     let mut files = Vec::new(alloc);
-    files.push((SafePath::fixed(alloc, "in/abc")?, Bytes::new(alloc, b"abc")?))?;
+    files.push((
+        SafePath::fixed(alloc, "in/abc")?,
+        Bytes::new(alloc, b"abc")?,
+    ))?;
     Ok(MemInbox::new(files, failing))
 }
 
@@ -83,9 +86,9 @@ struct Hollow {
 }
 
 impl Inbox for Hollow {
-    ghost map = { λ _ . None };
+    ghost map = { λ _. None };
 
-    ghost faults = { λ _ . 0 };
+    ghost faults = { λ _. 0 };
 
     fn length(&mut self, _path: &SafePath) -> Result<Option<u64>, InboxErr> {
         Ok(Some(3))
@@ -128,14 +131,35 @@ fn each_refusal_has_its_cause(rt: HostRuntime) -> Result<(), Fail> {
     let mut other = said(3);
     other.sha1 = Some([0; 20]);
     let zeros = "digest 0000000000000000000000000000000000000000, 0 done";
-    assert_eq!(rt; taken(alloc, "in/abc", &said(4), None, None)?.as_str(), "size 4 3, 0 done");
+    assert_eq!(rt;
+        taken(alloc, "in/abc", &said(4), None, None)?.as_str(),
+        "size 4 3, 0 done"
+    );
     assert_eq!(rt; taken(alloc, "in/abc", &other, None, None)?.as_str(), zeros);
-    assert_eq!(rt; taken(alloc, "in/ab", &said(3), None, None)?.as_str(), "absent, 0 done");
-    assert_eq!(rt; taken(alloc, "in/abc", &said(3), None, Some(0))?.as_str(), "inbox, 0 done");
-    assert_eq!(rt; taken(alloc, "in/abc", &said(3), None, Some(1))?.as_str(), "inbox, 0 done");
-    assert_eq!(rt; taken(alloc, "in/abc", &said(3), Some(0), None)?.as_str(), "host, 0 done");
-    assert_eq!(rt; taken(alloc, "in/abc", &said(3), Some(2), None)?.as_str(), "host, 2 done");
-    assert_eq!(rt; taken(alloc, "in/abc", &said(3), Some(4), None)?.as_str(), "host, 3 done");
+    assert_eq!(rt;
+        taken(alloc, "in/ab", &said(3), None, None)?.as_str(),
+        "absent, 0 done"
+    );
+    assert_eq!(rt;
+        taken(alloc, "in/abc", &said(3), None, Some(0))?.as_str(),
+        "inbox, 0 done"
+    );
+    assert_eq!(rt;
+        taken(alloc, "in/abc", &said(3), None, Some(1))?.as_str(),
+        "inbox, 0 done"
+    );
+    assert_eq!(rt;
+        taken(alloc, "in/abc", &said(3), Some(0), None)?.as_str(),
+        "host, 0 done"
+    );
+    assert_eq!(rt;
+        taken(alloc, "in/abc", &said(3), Some(2), None)?.as_str(),
+        "host, 2 done"
+    );
+    assert_eq!(rt;
+        taken(alloc, "in/abc", &said(3), Some(4), None)?.as_str(),
+        "host, 3 done"
+    );
     let mut hollow = Hollow { reads: 0 };
     let mut host = host(alloc, Vec::new(alloc))?;
     let mut stage = Stage::new(alloc);

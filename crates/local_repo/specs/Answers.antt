@@ -16,7 +16,7 @@ use Rattle.machine_state.specs.declared.arrived.Arrived.TheVariants as arrivals
 use Rattle.machine_state.specs.declared.arrived.UpdateFault.{UpdateFault}
 use Rattle.machine_state.specs.declared.arrived.UpdateFault.TheVariants as faults
 use Rattle.machine_state.specs.Values.{StateView}
-use Rattle.local_repo.specs.Arrival.{arrival}
+use Rattle.local_repo.specs.Arrival.{Arrives}
 use Rattle.local_repo.specs.Fits.{FitsIn}
 use Rattle.local_repo.specs.Bodies.{HasBody, DigestsApart}
 
@@ -40,8 +40,8 @@ IsInputRefusal _ = ⊥
 
 -- Of an inbox that tells its files this arrives, or it is refused so. Of another one any list may arrive that fits the state.
 abbrev pub IsArrival : Option Files → StateView → List ℕ → Path → Arrived → Type 0
-IsArrival (Some files) state name folder (arrivals.List list date) = (date ≡ []) × (arrival files state name folder ≡ Ok list)
-IsArrival (Some files) state name folder (arrivals.Refused refusal) = arrival files state name folder ≡ Err refusal
+IsArrival (Some files) state name folder (arrivals.List list date) = (date ≡ []) × Arrives files state name folder (Ok list)
+IsArrival (Some files) state name folder (arrivals.Refused refusal) = Arrives files state name folder (Err refusal)
 IsArrival None state name folder (arrivals.List list date) = (date ≡ []) × FitsIn state name list
 IsArrival None state name folder (arrivals.Refused refusal) = IsInputRefusal refusal
 IsArrival files state name folder arrivals.Nothing = ⊥

@@ -1,4 +1,3 @@
-pub mod Index
 pub mod Arrival
 pub mod Fits
 pub mod Bodies

@@ -5,10 +5,12 @@ ghost use Rattle.package_core.specs.Order.{package_cmp};
 ghost use Rattle.std.specs.Option.{option_copied};
 ghost use Rattle.package_list.specs.Sorted.{put, IsAscending, equal_of};
 ghost use Rattle.package_list.specs.Lists.{union, without, has_member, merged, latest};
-ghost use Rattle.package_list.specs.Answers.{Answers, insert_answer, append_answer, size_answer};
+ghost use Rattle.package_list.specs.Answers.{Answers, insert_answer, append_answer, size_answer, join_answer};
 
+use crate::apart::apart_union_of;
 use crate::fault::ListFault;
-use crate::join::{clash_in, copy_items, union_of};
+use crate::gather::{gathered, items_of, shared};
+use crate::join::{copy_items, union_of};
 use crate::place::{clashes_at, equal_in, found_at, is_at, place_of};
 use crate::reduce::{latest_of, merge_of};
 use package_core::Package;
@@ -17,7 +19,7 @@ use std::marker::Model;
 use std::rc::Rc;
 
 /// The members that a list may have.
-const MOST: usize = 200_000;
+pub(crate) const MOST: usize = 200_000;
 
 /// The members that the list of all known packages may have.
 const MOST_KNOWN: usize = 400_000;
@@ -52,6 +54,37 @@ impl PackageList {
         PackageList {
             items: Vec::new(alloc),
         }
+    }
+
+    /// The packages joined in the order in which they stand; of equal ones the first stays. The first that can't join those
+    /// before it decides the fault: `Conflict` where none of those is its equal and one of them has its triple; else `Full`
+    /// where it would be the 200,001st member. It takes n log n comparisons, and moves each package once.
+    pub fn from_packages(alloc: Global, packages: Vec<Package>) -> Result<PackageList, ListFault>
+        ensures { Answers result (join_answer packages.items) }
+    {
+        let packages = shared(alloc, packages)?;
+        PackageList::from_shared(alloc, &packages)
+    }
+
+    /// The same of packages that are shared already, and go on being so.
+    pub fn from_shared(
+        alloc: Global,
+        packages: &[Rc<Package>],
+    ) -> Result<PackageList, ListFault>
+        ensures { Answers result (join_answer (map rc_value packages.now)) }
+    {
+        let members = gathered(alloc, packages)?;
+        Ok(PackageList {
+            items: items_of(alloc, members)?,
+        })
+    }
+
+    /// The list of these packages, which stand in their order, no two of them equal. They are shared.
+    pub fn from_ascending(packages: Vec<Rc<Package>>) -> PackageList
+        requires { IsAscending package_cmp (map rc_value packages.items) }
+        ensures { result ≡ map rc_value packages.items }
+    {
+        PackageList { items: packages }
     }
 
     /// The number of members.
@@ -129,10 +162,7 @@ impl PackageList {
         ensures ok { OnOk result (self.new ≡ union self.old later.now) }
         ensures err { OnErr result (self.new ≡ self.old) }
     {
-        let all = union_of(alloc, &self.items, &later.items)?;
-        if let Some(clash) = clash_in(&all, &later.items) {
-            return Err(ListFault::Conflict(clash.triple(alloc)?));
-        }
+        let all = apart_union_of(alloc, &self.items, &later.items)?;
         if all.len() > MOST {
             return Err(ListFault::Full);
         }

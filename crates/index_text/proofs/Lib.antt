@@ -1,0 +1,2 @@
+pub mod RelationLemmas
+pub mod EntryLemmas
