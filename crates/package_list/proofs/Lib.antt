@@ -3,3 +3,4 @@ pub mod Unions
 pub mod Beside
 pub mod Removal
 pub mod Keys
+pub mod Pushes
