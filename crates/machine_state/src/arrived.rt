@@ -1,11 +1,11 @@
 //! What arrives of a folder or an archive.
-ghost use Rattle.std.specs.Prelude.{◌≡◌};
+ghost use Rattle.std.specs.Prelude.{◌≡◌, IfOk};
 ghost use Rattle.machine_state.specs.declared.arrived.UpdateFault.TheVariants.{OutOfMemory};
 
 use crate::refusal::Refusal;
 use control_stanza::Text;
 use package_list::PackageList;
-use std::alloc::{AllocError, AllocFailed};
+use std::alloc::{AllocError, AllocFailed, Global};
 
 /// What was read for a command.
 #[derive(Drop)]
@@ -21,6 +21,22 @@ pub enum Arrived {
     },
     /// What was read is refused so.
     Refused(Refusal),
+}
+
+impl Arrived {
+    /// The same once more. Fails only for want of memory.
+    pub fn copy(&self, alloc: Global) -> Result<Arrived, AllocError>
+        ensures { IfOk result (λ made. made ≡ self.now) }
+    {
+        match self {
+            Arrived::Nothing => Ok(Arrived::Nothing),
+            Arrived::List { list, date } => Ok(Arrived::List {
+                list: list.copy(alloc)?,
+                date: date.copy(alloc)?,
+            }),
+            Arrived::Refused(refusal) => Ok(Arrived::Refused(refusal.copy(alloc)?)),
+        }
+    }
 }
 
 /// Why nothing arrived.

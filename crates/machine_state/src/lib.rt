@@ -7,6 +7,8 @@ mod limit;
 mod refusal;
 mod repo;
 mod state;
+#[cfg(test)]
+mod tests;
 
 pub use arrived::{Arrived, UpdateFault};
 pub use change::{Change, ChangeFault};
