@@ -1,0 +1,5 @@
+pub mod Lines
+pub mod Pieces
+pub mod Root
+pub mod Grammar
+pub mod Faults
