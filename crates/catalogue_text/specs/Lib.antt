@@ -3,3 +3,4 @@ pub mod Pieces
 pub mod Root
 pub mod Grammar
 pub mod Faults
+pub mod Reading
