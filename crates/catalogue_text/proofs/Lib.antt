@@ -1,0 +1,5 @@
+pub mod LineLemmas
+pub mod ValueLemmas
+pub mod Parts
+pub mod PlainLemmas
+pub mod RootParts
