@@ -48,7 +48,7 @@ taking_each l Q c a s r ops each = EachOp-map (IsTaking l) Q one ops each
 taking_touches : (l : Log) (ops : List Op) → EachOp (IsTaking l) ops → EachOp (TouchesOnly (Taken l)) ops
 taking_touches l ops each = taking_each l (TouchesOnly (Taken l)) (λ p is. inl is) (λ p b w. inl w.0) (λ p is. inl is) (λ a b w. (inl w.0, inr (w.1, w.2))) ops each
 
-taking_quiet : (l : Log) (ops : List Op) → EachOp (IsTaking l) ops → said ops ≡ []
+pub taking_quiet : (l : Log) (ops : List Op) → EachOp (IsTaking l) ops → said ops ≡ []
 taking_quiet l [] each = refl
 taking_quiet l (Create p ∷ ops) each = taking_quiet l ops each.1
 taking_quiet l (Append p b ∷ ops) each = taking_quiet l ops each.1
@@ -63,7 +63,8 @@ below_pool : (b : Path) → IsTrue (is_pooled b) → IsTrue (is_below_one b)
 below_pool b is = go (is_below (codes "db") b) (is_pooled b) (is_below (codes "public") b) is
   where
     go : (x y z : Bool) → y ≡ true → ((x || y) || z) ≡ true
-    go x true z e = search
+    go true true z e = refl
+    go false true z e = refl
     go x false z e = absurd (cc)
 
 pub taking_work : (l : Log) (ops : List Op) → EachOp (IsTaking l) ops → EachOp IsWork ops
@@ -83,10 +84,14 @@ front : (a b : Bool) → (a && b) ≡ true → a ≡ true
 front true b e = refl
 front false b e = absurd (cc)
 
-second : (b c d : ℕ) (q folder : Path) → is_below (b ∷ d ∷ folder) (b ∷ c ∷ q) ≡ true → c ≡ d
-second b c d q folder is =
-    let whole = front (starts_with nat_eq (b ∷ c ∷ q) (b ∷ d ∷ folder)) (slice_index (b ∷ c ∷ q) (length (b ∷ d ∷ folder)) == 47) is in
-    sym (eqb-true d c (front (nat_eq d c) (starts_with nat_eq q folder) (behind (nat_eq b b) whole)))
+short : (x y : Bool) → ((x && false) && y) ≡ true → ⊥
+short true y e = clash e
+short false y e = clash e
+
+second : (a b c d : ℕ) (q folder : Path) → is_below (a ∷ d ∷ folder) (b ∷ c ∷ q) ≡ true → c ≡ d
+second a b c d q folder is =
+    let whole = front (starts_with nat_eq (b ∷ c ∷ q) (a ∷ d ∷ folder)) (slice_index (b ∷ c ∷ q) (length (a ∷ d ∷ folder)) == 47) is in
+    sym (eqb-true d c (front (nat_eq d c) (starts_with nat_eq q folder) (behind (nat_eq a b) whole)))
   where
     behind : (x : Bool) → (x && (nat_eq d c && starts_with nat_eq q folder)) ≡ true → (nat_eq d c && starts_with nat_eq q folder) ≡ true
     behind true e = e
@@ -94,8 +99,12 @@ second b c d q folder is =
 
 pub public_not_pooled : (q : Path) → IsTrue (is_public q) → IsTrue (is_pooled q) → ⊥
 public_not_pooled [] public pooled = clash public
-public_not_pooled (b ∷ []) public pooled = clash public
-public_not_pooled (b ∷ c ∷ q) public pooled = search
+public_not_pooled (b ∷ []) public pooled = short (nat_eq 112 b) (slice_index (b ∷ []) 6 == 47) public
+public_not_pooled (b ∷ c ∷ q) public pooled =
+    let u : c ≡ 117 = second 112 b c 117 q (codes "blic") public in
+    let o : c ≡ 111 = second 112 b c 111 q (codes "ol") pooled in
+    let apart : 117 ≡ 111 = sym u ∙ o in
+    clash (ap (λ (x : ℕ). x == 111) apart)
 
 -- targets
 once_then : (xs : List Path) → IsOnce xs → AllByRecursion (λ p. p ≡ root → ⊥) xs → IsOnce (xs ++ root ∷ [])
@@ -103,8 +112,8 @@ once_then [] once not = (tt, tt)
 once_then (x ∷ xs) once not = (but x xs once.0 not.0, once_then xs once.1 not.1)
   where
     but : (x : Path) (ys : List Path) → IsNot x ys → (x ≡ root → ⊥) → IsNot x (ys ++ root ∷ [])
-    but x [] is no = (no, tt)
-    but x (y ∷ ys) is no = (is.0, but x ys is.1 no)
+    but x [] is other = (other, tt)
+    but x (y ∷ ys) is other = (is.0, but x ys is.1 other)
 
 targets_then : (l : Log) (xs ys : List Path) → AllByRecursion (λ p. IsTrue (is_pooled p) × (live_of l p ≡ None)) xs → AreTargets l ys → AreTargets l (xs ++ ys)
 targets_then l [] ys all are = are
@@ -179,8 +188,8 @@ module _ (s : StateView) (l : Log) (a : List Op) (grows : PoolGrows l a) (rest :
   }
     where
       not_true : (b : Bool) → (b ≡ true → ⊥) → IsFalse b
-      not_true true no = absurd (no refl)
-      not_true false no = refl
+      not_true true never = absurd (never refl)
+      not_true false never = refl
 
       law_of_live : (x : Log) → Named x → (p : Path) (bytes : List ℕ) → IsTrue (is_pooled p) → live_of x p ≡ Some bytes → p ≡ pool_name (sha256 bytes)
       law_of_live x all = all (live_of x) (law_of_live_image x)

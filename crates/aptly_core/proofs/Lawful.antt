@@ -1,30 +1,40 @@
--- The machine of the program is lawful.
-use Rattle.std.proofs.Common.{◌≡◌, ℕ, List, [], Option, refl, sym, ◌∙◌, ap, subst}
+-- The machine of the program is lawful, whatever its inbox tells.
+use Rattle.std.proofs.Common.{◌≡◌, ℕ, List, [], Option, Some, None, refl}
+use Rattle.ap_host.specs.Disk.{Files}
+use Rattle.command_words.specs.Plain.{PlainCommand}
 use Rattle.run_model.specs.Run.{Outcome, Lawful}
-use Rattle.aptly_core.specs.declared.command_words.Command.{Command}
-use Rattle.aptly_core.specs.declared.machine_state.Refusal.{Refusal}
-use Rattle.aptly_core.specs.Machine.{machine, Steps}
-use Rattle.aptly_core.specs.State.{Valid}
-use Rattle.aptly_core.specs.Step.{Came, came_to, refusal_of}
-use Rattle.aptly_core.specs.Values.{StateView}
-use Rattle.aptly_core.proofs.StepLemmas.{says_some, valid_step}
-
-replies : (k : Option (List ℕ)) (s : StateView) (c : Command) (o : Outcome StateView Refusal) → Steps k s c o → o.reply ≡ [] → ⊥
-replies k s c o step none = says_some s c (refusal_of s c) (sym (ap (λ (x : Came). x.reply) step) ∙ none)
-
-pub keeps : (k : Option (List ℕ)) (s : StateView) (c : Command) (o : Outcome StateView Refusal) → Valid s → Steps k s c o → Valid o.state
-keeps k s c o valid step = subst Valid (sym (ap (λ (x : Came). x.state) step)) (valid_step s c valid)
+use Rattle.machine_state.specs.declared.refusal.Refusal.{Refusal}
+use Rattle.machine_state.specs.State.{Valid}
+use Rattle.machine_state.specs.Values.{StateView}
+use Rattle.machine_step.specs.Step.{Came, Step}
+use Rattle.reply_text.specs.Refusals.{refusal_line}
+use Rattle.aptly_core.specs.Machine.{machine, came, Steps}
 
 -- an outcome as one of a run
 abbrev pub outcome_of : Came → Outcome StateView Refusal
 outcome_of o = record { reply = o.reply; refusal = o.refusal; state = o.state }
 
-pub lawful : Lawful machine
-lawful = record {
-  replies = replies;
-  plain = λ j k s c o none step. step;
-  keeps = keeps;
-  total = λ k s c valid. (outcome_of (came_to s c (refusal_of s c)), refl);
+pub replies : (input : Option Files) (k : Option (List ℕ)) (s : StateView) (c : PlainCommand) (o : Outcome StateView Refusal) → Steps input k s c o → o.reply ≡ [] → ⊥
+replies input k s c o step = ?
+
+pub plain : (input : Option Files) (j k : Option (List ℕ)) (s : StateView) (c : PlainCommand) (o : Outcome StateView Refusal) → o.refusal ≡ None → Steps input j s c o → Steps input k s c o
+plain input j k s c o none step = ?
+
+pub keeps : (input : Option Files) (k : Option (List ℕ)) (s : StateView) (c : PlainCommand) (o : Outcome StateView Refusal) → Valid s → Steps input k s c o → Valid o.state
+keeps input k s c o valid step = ?
+
+pub refused_says : (input : Option Files) (k : Option (List ℕ)) (s : StateView) (c : PlainCommand) (o : Outcome StateView Refusal) (r : Refusal) → Steps input k s c o → o.refusal ≡ Some r → o.reply ≡ refusal_line r
+refused_says input k s c o r step is = ?
+
+total : (input : Option Files) (k : Option (List ℕ)) (s : StateView) (c : PlainCommand) → Valid s → (o : Came) × Step input k s c o
+total input k s c valid = ?
+
+pub lawful : (input : Option Files) → Lawful (machine input)
+lawful input = record {
+  replies = replies input;
+  plain = plain input;
+  keeps = keeps input;
+  total = λ k s c valid. let w = total input k s c valid in (outcome_of w.0, w.1);
   valid = λ f s stands. stands.stored.valid;
   opens = λ f s settled. settled;
   settled_serves = λ f s settled. settled.public;

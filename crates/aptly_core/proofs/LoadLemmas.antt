@@ -6,8 +6,9 @@ use Rattle.package_core.specs.Card.{Card}
 use Rattle.hash_pool.specs.Names.{pool_name}
 use Rattle.machine_state.specs.State.{Valid, empty}
 use Rattle.machine_state.specs.Values.{StateView}
-use Rattle.catalogue_text.specs.Root.{root_text, TextsApart, IsFirstBadLine}
-use Rattle.catalogue_text.proofs.OneState.{one_state, no_state}
+use Rattle.catalogue_text.specs.Root.{root_text}
+use Rattle.catalogue_text.specs.Faults.{TextsApart, IsFirstBadLine}
+use Rattle.catalogue_text.proofs.OneState.{one_state}
 use Rattle.local_repo.specs.Bodies.{HasBody}
 use Rattle.aptly_core.specs.declared.catalogue_root.LoadFault.{LoadFault}
 use Rattle.aptly_core.specs.declared.catalogue_root.LoadFault.TheVariants.{Damaged, HostFault, OutOfMemory}
@@ -133,7 +134,7 @@ loads_fault f text fault r there is w = subst (MayLoad f) (sym is) (go fault w)
     bad path line at w apart =
         let first = w (apart text there) in (
           (λ s sound. elim sound.root [
-            | inl e ↦ no_state text line s first sound.valid (let same : Some text ≡ Some (root_text s) = sym there ∙ e in cc)
+            | inl e ↦ first.none s sound.valid (let same : Some text ≡ Some (root_text s) = sym there ∙ e in cc)
             | inr e ↦ let no : Some text ≡ None = sym there ∙ e.0 in cc
           ]),
           (at, text, there, first),

@@ -31,7 +31,7 @@ clash h = absurd (cc)
 abbrev pub P : Path → Type 0
 P q = IsTrue (is_staged q)
 
-root_not_staged : ¬ P root
+pub root_not_staged : ¬ P root
 root_not_staged h = clash h
 
 front : (a b : Bool) → (a && b) ≡ true → a ≡ true

@@ -52,3 +52,10 @@ pub record Decides (input : Option Files) (state : StateView) (before now : Stag
   pub step : IsInStep before l → IsInStep now (extended ops l)
   pub apart : BodiesApart input (live_of l) → BodiesApart input (live_of (extended ops l))
   pub bodies : IfOk result (λ outcome. Stored (live_of l) state → BodiesApart input (live_of l) → IfSome outcome.state (λ next. All (HasBody (live_of (extended ops l))) next.known))
+
+-- the same, where the reading is that of the command
+pub record DecidesIf (Fits : Type 0) (input : Option Files) (state : StateView) (before now : StageState) (result : Result Outcome RunFault) (l : Log) (ops : List Op) : Type 0 where
+  pub grows : PoolGrows l ops
+  pub step : IsInStep before l → IsInStep now (extended ops l)
+  pub apart : BodiesApart input (live_of l) → BodiesApart input (live_of (extended ops l))
+  pub bodies : IfOk result (λ outcome. Fits → Stored (live_of l) state → BodiesApart input (live_of l) → IfSome outcome.state (λ next. All (HasBody (live_of (extended ops l))) next.known))

@@ -6,7 +6,6 @@ use Rattle.ap_host.specs.declared.host.Op.TheVariants.{Create, Append, Sync, Ren
 use Rattle.ap_host.specs.Disk.{Path, Files, Log, live_of}
 use Rattle.ap_host.specs.Changes.{EachOp}
 use Rattle.command_words.specs.Plain.{PlainCommand}
-use Rattle.query_eval.specs.Build.{Rose}
 use Rattle.run_model.specs.Run.{Outcome, Machine}
 use Rattle.stage_file.specs.Stage.{is_staged}
 use Rattle.hash_pool.specs.Names.{is_pooled}
@@ -23,11 +22,6 @@ came o = record { reply = o.reply; refusal = o.refusal; state = o.state }
 
 abbrev pub Steps : Option Files → Option (List ℕ) → StateView → PlainCommand → Outcome StateView Refusal → Type 0
 Steps input large state command o = Step input large state command (came o)
-
--- Which text a call's pattern builder refused for its size: none need be told, or the last one, where the builder's count rose in
--- the call.
-abbrev pub IsTold : ℕ → ℕ → Option (List ℕ) → Option (List ℕ) → Type 0
-IsTold before now refused large = (large ≡ None) ⊎ (Rose before now × (refused ≡ large))
 
 abbrev pub is_below_one : Path → Bool
 is_below_one path = is_below (codes "db") path || is_pooled path || is_below (codes "public") path

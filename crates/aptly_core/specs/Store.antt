@@ -8,7 +8,8 @@ use Rattle.package_core.specs.Card.{Card}
 use Rattle.hash_pool.specs.Names.{pool_name, IsNamed}
 use Rattle.machine_state.specs.State.{Valid, empty}
 use Rattle.machine_state.specs.Values.{StateView}
-use Rattle.catalogue_text.specs.Root.{root_text, TextsApart, IsFirstBadLine}
+use Rattle.catalogue_text.specs.Root.{root_text}
+use Rattle.catalogue_text.specs.Faults.{TextsApart, IsFirstBadLine}
 use Rattle.local_repo.specs.Bodies.{HasBody, DigestsApart}
 use Rattle.aptly_core.specs.declared.status.Damage.{Damage}
 use Rattle.aptly_core.specs.declared.status.Damage.TheVariants.{Missing, Size, Digest, Unreadable}

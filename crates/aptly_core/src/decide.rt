@@ -1,14 +1,14 @@
 //! What a command comes to: what it needs is read, and its step is made.
-ghost use Rattle.std.specs.Prelude.{◌≡◌, ◌≤◌, ℕ, List, None, Option, IfOk, IsSome};
+ghost use Rattle.std.specs.Prelude.{◌≡◌, ◌≤◌, None, IfOk, IsSome};
 ghost use Rattle.ap_host.specs.Calls.{CauseOf};
 ghost use Rattle.ap_host.specs.Changes.{GoesOn};
 ghost use Rattle.command_words.specs.Plain.{plain};
 ghost use Rattle.machine_state.specs.State.{Valid};
-ghost use Rattle.machine_step.specs.Answers.{IsNew, seen};
+ghost use Rattle.machine_step.specs.Answers.{IsNew, Told, reading_for, seen};
+ghost use Rattle.machine_step.specs.Early.{folder_read};
 ghost use Rattle.machine_step.specs.Step.{Step};
 ghost use Rattle.aptly_core.specs.declared.fault.RunFault.TheVariants.{HostFault, InboxFault};
-ghost use Rattle.aptly_core.specs.Arrives.{Arrives, ArrivesFor, Decides, arrived_of};
-ghost use Rattle.aptly_core.specs.Machine.{IsTold};
+ghost use Rattle.aptly_core.specs.Arrives.{Arrives, ArrivesFor, Decides, DecidesIf, arrived_of};
 
 use crate::fault::RunFault;
 use ap_host::{Host, Inbox};
@@ -70,6 +70,14 @@ fn decide_with<H: Host, I: Inbox, M: Patterns>(
     patterns: &mut M,
     reading: Reading,
 ) -> Result<Outcome, RunFault>
+    ensures comes { Valid state.now → reading ≡ reading_for (folder_read state.now (plain command.now)) → IfOk result (λ outcome. Told (M.refusals patterns.old) (M.refusals patterns.new) (M.refused patterns.new) (λ large. Step (I.map inbox.old) large state.now (plain command.now) (seen state.now outcome))) }
+    ensures changed { Valid state.now → reading ≡ reading_for (folder_read state.now (plain command.now)) → IfOk result (λ outcome. IsNew state.now outcome.state) }
+    ensures kept { IfOk result (λ outcome. IsSome outcome.refusal → outcome.state ≡ None) }
+    ensures later { M.refusals patterns.old ≤ M.refusals patterns.new }
+    ensures log { GoesOn (H.log host.old) (H.log host.new) (DecidesIf (reading ≡ reading_for (folder_read state.now (plain command.now))) (I.map inbox.old) state.now stage.old stage.new result) }
+    ensures map { I.map inbox.new ≡ I.map inbox.old }
+    ensures host_cause { CauseOf HostFault (H.faults host.old) (H.faults host.new) result }
+    ensures inbox_cause { CauseOf InboxFault (I.faults inbox.old) (I.faults inbox.new) result }
 {
     let arrived = arrive(alloc, host, inbox, stage, state, reading)?;
     Ok(step(alloc, state, command, arrived, now, patterns)?)
@@ -87,7 +95,7 @@ pub fn decide<H: Host, I: Inbox, M: Patterns>(
     now: i64,
     patterns: &mut M,
 ) -> Result<Outcome, RunFault>
-    ensures comes { Valid state.now → IfOk result (λ outcome. (large : Option (List ℕ)) × IsTold (M.refusals patterns.old) (M.refusals patterns.new) (M.refused patterns.new) large × Step (I.map inbox.old) large state.now (plain command.now) (seen state.now outcome)) }
+    ensures comes { Valid state.now → IfOk result (λ outcome. Told (M.refusals patterns.old) (M.refusals patterns.new) (M.refused patterns.new) (λ large. Step (I.map inbox.old) large state.now (plain command.now) (seen state.now outcome))) }
     ensures changed { Valid state.now → IfOk result (λ outcome. IsNew state.now outcome.state) }
     ensures kept { IfOk result (λ outcome. IsSome outcome.refusal → outcome.state ≡ None) }
     ensures later { M.refusals patterns.old ≤ M.refusals patterns.new }
