@@ -23,7 +23,7 @@ pub returns-in-Ok-clause-log : goal.returns-in-Ok-clause-log
 returns-in-Ok-clause-log g c = GoesOn-map _ _ _ _ c.decide_with.ensures.log (λ l a w. decides_of _ _ _ _ _ _ (λ valid. (c.in-Ok.ensures.need valid).1) l a w)
 
 pub returns-in_ok-refused-in-Err-Refused-clause-comes : goal.returns-in_ok-refused-in-Err-Refused-clause-comes
-returns-in_ok-refused-in-Err-Refused-clause-comes g c valid = refused_early _ _ _ _ _ (plain c.args.command.now) c.in-Err-Refused.refusal _ c.in_ok-refused-in-Err-Refused.ensures (subst (λ (x : ChangeFault). IsNeed _ _ _ c.args.state.now (plain c.args.command.now) (Err x)) c.in-Err-Refused.field-0-is (c.in-Err-Refused.ensures.need valid))
+returns-in_ok-refused-in-Err-Refused-clause-comes g c valid = refused_early _ _ _ _ _ (plain c.args.command.now) c.in-Err-Refused.refusal _ c.in_ok-refused-in-Err-Refused.ensures (subst (λ (x : ChangeFault). IsNeed (g.M.Patterns.refusals c.args.patterns.now) (g.M.Patterns.refusals c.need.new.patterns) (g.M.Patterns.refused c.need.new.patterns) c.args.state.now (plain c.args.command.now) (Err x)) c.in-Err-Refused.field-0-is (c.in-Err-Refused.ensures.need valid))
 
 pub returns-in_ok-refused-in-Err-Refused-clause-log : goal.returns-in_ok-refused-in-Err-Refused-clause-log
 returns-in_ok-refused-in-Err-Refused-clause-log g c = GoesOn-none _ _ _ refl (λ l. decides_refused _ _ _ c.in_ok-refused-in-Err-Refused.field-0 (ap (λ (x : Outcome). x.state) c.in_ok-refused-in-Err-Refused.ensures) l)

@@ -1,6 +1,8 @@
-use Rattle.std.proofs.Common.{List, ℕ, [], ◌∷◌, ◌++◌, Option, None, Ok, unwrap_or, refl, sym, ◌∙◌, subst}
+use Rattle.std.proofs.Common.{List, ℕ, [], ◌∷◌, ◌++◌, Option, None, Result, Ok, unwrap_or, refl, sym, ◌∙◌, subst}
 use Rattle.std.proofs.lemmas.Result.{err_from_is_err_and}
 use Rattle.ap_host.specs.declared.host.Op.TheVariants.{Say}
+use Rattle.ap_host.specs.declared.host.Op.{Op}
+use Rattle.ap_host.specs.declared.host.HostErr.{HostErr}
 use Rattle.ap_host.specs.Calls.{Did}
 use Rattle.ap_host.specs.Disk.{extended}
 use Rattle.ap_host.proofs.ChangeLemmas.{does, GoesOn-map, GoesOn-then}
@@ -13,7 +15,7 @@ use Rattle.aptly_core.specs.Runs.{RunsOne, MayRun}
 use Rattle.aptly_core.proofs.Lawful.{keeps}
 use Rattle.aptly_core.proofs.CommitLemmas.{rest_valid}
 use Rattle.aptly_core.proofs.GrowLemmas.{taking_quiet, taking_work}
-use Rattle.aptly_core.proofs.RunLemmas.{made, runs_err, broke_taking, quietly, say_broke, say_done, saved_work, saved_said, taken_work, all_grows, all_rests, all_on, decided_then_saved, runs_ok}
+use Rattle.aptly_core.proofs.RunLemmas.{made, runs_err, broke_taking, quietly, say_broke, say_done, saved_work, saved_said, taken_work, all_grows, all_rests, all_on, Decided, decided_then_saved, runs_ok}
 use Rattle.aptly_core.proofs.run.run_one.Goals as goal
 
 pub returns-in_err-outcome-clause-log : goal.returns-in_err-outcome-clause-log
@@ -52,14 +54,17 @@ returns-in_err-say-clause-log g c =
     let mid = c.decide.new.stage in
     let now = c.save.new.stage in
     let bytes = c.as_bytes.ensures.value ∙ c.as_str.ensures in
-    GoesOn-then _ _ _ _ _ _ (GoesOn-then _ _ _ _ _ _ c.in_ok-outcome.ensures.log c.in_ok-save.ensures.log (decided_then_saved input s before mid now out _)) (does (Say c.as_bytes.result.now) c.say.result _ _ c.say.ensures.log) (λ l q b x y.
+    let ok : Result (Unit {0}) HostErr = Ok tt in
+    let Told : Option (List ℕ) → Type 0 = IsTold (g.M.Patterns.refusals c.args.patterns.now) (g.M.Patterns.refusals c.decide.new.patterns) (g.M.Patterns.refused c.decide.new.patterns) in
+    let saved = GoesOn-then _ _ _ _ _ (Decided input s before mid now out ok) c.in_ok-outcome.ensures.log c.in_ok-save.ensures.log (decided_then_saved input s before mid now out ok) in
+    GoesOn-then _ _ _ _ _ _ saved (does (Say c.as_bytes.result.now) c.say.result _ _ c.say.ensures.log) (λ l q b x y.
     let did = subst (λ (t : List ℕ). Did (Say t) c.say.result b) bytes y in
     let p = x.taken in
     let a = x.saved in
     let d = x.decides in
     let w = x.saves in
-    subst (λ (z : List _). RunsOne input _ s cmd before now _ l (z ++ b)) x.cut (
-    runs_err input _ s cmd before now _ e.0 l ((p ++ a) ++ b) e.1 (saved_work l p a d.grows w.only out.reply c.say.result b did) (λ may.
+    subst (λ (z : List Op). RunsOne input Told s cmd before now c.from_residual-in_err-say.result l (z ++ b)) x.cut (
+    runs_err input Told s cmd before now c.from_residual-in_err-say.result e.0 l ((p ++ a) ++ b) e.1 (saved_work l p a d.grows w.only out.reply c.say.result b did) (λ may.
     let valid = rest_valid s l may.rest in
     let step = c.in_ok-outcome.ensures.comes valid in
     let next = keeps input step.0 s cmd (made s out) valid step.2 in
@@ -85,7 +90,10 @@ returns-clause-log g c =
     let mid = c.decide.new.stage in
     let now = c.save.new.stage in
     let bytes = c.as_bytes.ensures.value ∙ c.as_str.ensures in
-    GoesOn-then _ _ _ _ _ _ (GoesOn-then _ _ _ _ _ _ c.in_ok-outcome.ensures.log c.in_ok-save.ensures.log (decided_then_saved input s before mid now out _)) (does (Say c.as_bytes.result.now) c.say.result _ _ c.say.ensures.log) (λ l q b x y.
+    let ok : Result (Unit {0}) HostErr = Ok tt in
+    let Told : Option (List ℕ) → Type 0 = IsTold (g.M.Patterns.refusals c.args.patterns.now) (g.M.Patterns.refusals c.decide.new.patterns) (g.M.Patterns.refused c.decide.new.patterns) in
+    let saved = GoesOn-then _ _ _ _ _ (Decided input s before mid now out ok) c.in_ok-outcome.ensures.log c.in_ok-save.ensures.log (decided_then_saved input s before mid now out ok) in
+    GoesOn-then _ _ _ _ _ _ saved (does (Say c.as_bytes.result.now) c.say.result _ _ c.say.ensures.log) (λ l q b x y.
     let did = subst (λ (t : List ℕ). Did (Say t) c.say.result b) bytes y in
     let told = subst (λ v. Did (Say out.reply) v b) c.in_ok-say.was did in
-    subst (λ (t : StateView). RunsOne input _ s cmd before now (Ok (t, out.refusal)) l (q ++ b)) (sym c.unwrap_or.ensures) (runs_ok input _ s cmd before mid now out tt _ refl c.in_ok-outcome.ensures.comes c.in_ok-outcome.ensures.kept c.in_ok-outcome.ensures.changed l q b x told c.say.result did))
+    subst (λ (t : StateView). RunsOne input Told s cmd before now (Ok (t, out.refusal)) l (q ++ b)) (sym c.unwrap_or.ensures) (runs_ok input Told s cmd before mid now out tt ok refl c.in_ok-outcome.ensures.comes c.in_ok-outcome.ensures.kept c.in_ok-outcome.ensures.changed l q b x told c.say.result did))
