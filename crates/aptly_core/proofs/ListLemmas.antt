@@ -1,6 +1,7 @@
 -- Commands in turn.
-use Rattle.std.proofs.Common.{◌≡◌, ℕ, ◌+◌, ◌<◌, ◌≤◌, List, [], ◌∷◌, ◌++◌, length, drop, get_or, drop-cons, add-one, Option, Some, None, Ok, Err, refl, sym, ◌∙◌, ap, subst, append-nil}
+use Rattle.std.proofs.Common.{◌≡◌, ℕ, ◌+◌, ◌<◌, ◌≤◌, List, [], ◌∷◌, ◌++◌, length, drop, map, get_or, drop-cons, add-one, Option, Some, None, Ok, Err, refl, sym, ◌∙◌, ap, subst, append-nil}
 use Rattle.std.proofs.Math.ListN.{drop_of_length-le}
+use Rattle.std.proofs.lemmas.List.{get_or-map, length-map}
 use Rattle.ap_host.specs.declared.host.Op.{Op}
 use Rattle.ap_host.specs.Disk.{Files, Log, extended, said}
 use Rattle.ap_host.specs.Changes.{EachOp}
@@ -26,7 +27,7 @@ pub turn_so : (input : Option Files) (T : Option (List ℕ) → Type 0) (s : Sta
 turn_so input T s c before now (t, None) l ops w = record {
   work = w.work;
   refused = λ valid r no. absurd (cc);
-  ran = λ may k. let ran = w.ran may in done_told (machine input) (lawful input) k l s c t None ops refl ran.2;
+  ran = λ may k. let ran = w.ran may in done_told (machine input) (lawful input) ran.0 k l s c t None ops refl ran.2;
   on = w.on;
 }
 turn_so input T s c before now (t, Some q) l ops w = record {
@@ -94,7 +95,8 @@ module _ (input : Option Files) (s0 : StateView) (all : List PlainCommand) (s : 
         let step = comes before.0 in
         let o : Outcome StateView Refusal = record { reply = step.1.1; refusal = Some r; state = step.0 } in
         let k = step.1.2 in
-        (k, wider k step.1.3, before.1 k (o ∷ []) (Some r) (subst (λ (cs : List PlainCommand). Runs (machine input) k s cs (o ∷ [])) (sym cut) (step.1.4, refl)) (subst (λ (cs : List PlainCommand). EndsAs cs (o ∷ []) (Some r)) (sym cut) (refl, refl)))
+        let whole = before.1 k (o ∷ []) (Some r) (subst (λ (cs : List PlainCommand). Runs (machine input) k s cs (o ∷ [])) (sym cut) (step.1.4, refl)) (subst (λ (cs : List PlainCommand). EndsAs cs (o ∷ []) (Some r)) (sym cut) (refl, refl)) in
+        (k, wider k step.1.3, whole.0, whole.1, whole.2)
     comes_end (statuses.Usage p) only so_far comes valid = tt
     comes_end statuses.HostFault only so_far comes valid = tt
     comes_end statuses.InboxFault only so_far comes valid = tt
@@ -129,7 +131,7 @@ module _ (input : Option Files) (s0 : StateView) (all : List PlainCommand) (s : 
 
           go : (end : Status) → IsTurnEnd end → Goes input s0 all s i start a → TurnRan input T (extended a start) s c (Err end) b → RanTo input U start s0 all end (a ++ b)
           go statuses.Done only on ran = absurd only
-          go (statuses.Refused r) only on ran = (ran.0, wider ran.0 ran.1, ran.2, turn_refused (machine input) (lawful input) ran.0 start s0 all a s i c below (on ran.0) ran.2 (Some r) r refl b (this ran.0 (Some (ran.2, Some r)) ran.3))
+          go (statuses.Refused r) only on ran = (ran.0, wider ran.0 ran.1, (ran.2, turn_refused (machine input) (lawful input) ran.0 start s0 all a s i c below (on ran.0) ran.2 (Some r) r refl b (this ran.0 (Some (ran.2, Some r)) ran.3)))
           go (statuses.Usage p) only on ran = absurd only
           go statuses.HostFault only on ran = broke on ran
           go statuses.InboxFault only on ran = broke on ran
@@ -141,7 +143,8 @@ module _ (input : Option Files) (s0 : StateView) (all : List PlainCommand) (s : 
 pub comes_all : (input : Option Files) (U : Option (List ℕ) → Type 0) → U None → (s0 : StateView) (all : List PlainCommand) (s : StateView) (i : ℕ) → length all ≤ i → ComesFrom input s0 all s i → Valid s0 → EndsWith input U s0 all statuses.Done
 comes_all input U told s0 all s i over so_far valid =
     let none : drop i all ≡ [] = drop_of_length-le all over in
-    (None, told, (so_far valid).1 None [] None (subst (λ (cs : List PlainCommand). Runs (machine input) None s cs []) (sym none) tt) (subst (λ (cs : List PlainCommand). EndsAs {S = StateView} {R = Refusal} cs [] None) (sym none) refl))
+    let whole = (so_far valid).1 None [] None (subst (λ (cs : List PlainCommand). Runs (machine input) None s cs []) (sym none) tt) (subst (λ (cs : List PlainCommand). EndsAs {S = StateView} {R = Refusal} cs [] None) (sym none) refl) in
+    (None, told, whole.0, whole.1, whole.2)
 
 pub runs_all : (input : Option Files) (U : Option (List ℕ) → Type 0) → U None → (s0 : StateView) (all : List PlainCommand) (st : StageState) (s : StateView) (i : ℕ) (now : StageState) → length all ≤ i → (start : Log) (a : List Op) → RunsFrom input s0 all st s i now start a → RunsList input U s0 all st statuses.Done start a
 runs_all input U told s0 all st s i now over start a so_far = record {
@@ -153,8 +156,21 @@ runs_all input U told s0 all st s i now over start a so_far = record {
       let nothing = ran_nothing (machine input) (lawful input) None (extended a start) s none (Some (s, None)) before.0.rest (refl, refl, refl) in (
         None,
         told,
-        s,
-        subst (λ (x : List Op). Ran (machine input) None start s0 all (Some (s, None)) x) (append-nil a)
-            (before.1 None (Some (s, None)) [] (subst (λ (cs : List PlainCommand). Ran (machine input) None (extended a start) s cs (Some (s, None)) []) (sym (drop_of_length-le all over)) nothing)),
+        (
+          s,
+          subst (λ (x : List Op). Ran (machine input) None start s0 all (Some (s, None)) x) (append-nil a)
+              (before.1 None (Some (s, None)) [] (subst (λ (cs : List PlainCommand). Ran (machine input) None (extended a start) s cs (Some (s, None)) []) (sym (drop_of_length-le all over)) nothing)),
+        ),
       );
 }
+
+-- ---- commands as they are seen
+module _ {A : Type 0} (view : A → PlainCommand) (commands : List A) (i : ℕ) where
+  pub plain_below : i < length commands → i < length (map view commands)
+  plain_below lt = subst (λ (n : ℕ). i < n) (sym (length-map commands view)) lt
+
+  pub plain_over : length commands ≤ i → length (map view commands) ≤ i
+  plain_over le = subst (λ (n : ℕ). n ≤ i) (sym (length-map commands view)) le
+
+  pub plain_at : (item : A) → i < length commands → item ≡ get_or commands i item → view item ≡ get_or (map view commands) i (view item)
+  plain_at item lt is = ap view is ∙ sym (get_or-map view commands i item (view item) lt)
