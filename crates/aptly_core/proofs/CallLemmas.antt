@@ -33,7 +33,7 @@ use Rattle.aptly_core.specs.declared.status.Status.{Status}
 use Rattle.aptly_core.specs.declared.status.Status.TheVariants.{Done, Refused, Usage, HostFault, InboxFault, OutOfMemory, Damaged, Busy}
 use Rattle.aptly_core.specs.Calls.{GotClaim, CallTo, Called, CalledWith, TellsUsage, SaysUsage, IsSaid, IsRunAnswer, IsDamagedAnswer}
 use Rattle.aptly_core.specs.Machine.{machine, store, IsWork, IsOpening, Opening, Sets}
-use Rattle.aptly_core.specs.Opens.{OpensTo, RunsClaimed, IsFault, IsSettling, IsClaimedStatus, IsDamagedOrFault}
+use Rattle.aptly_core.specs.Opens.{OpensTo, status_of_load, RunsClaimed, IsFault, IsSettling, IsClaimedStatus, IsDamagedOrFault}
 use Rattle.aptly_core.specs.Runs.{MayRun, RanAs, RanTo, RunsList, EndsWith, IsRunStatus}
 use Rattle.aptly_core.specs.Store.{Sound, SoundForNone, IsDamage, Open, RootApart, BodiesApart, Apart}
 use Rattle.aptly_core.proofs.Lawful.{lawful}
@@ -69,6 +69,15 @@ claimed_damaged input Told cs d l a w = record {
   refused = λ q e. absurd (cc);
   went = λ apart s durable stands. absurd ((w.loads apart.texts).0 s (stored_sound (live_of l) s stands.stored));
 }
+
+-- no state was given
+pub claimed_none : (input : Option Files) (Told : Option (List ℕ) → Type 0) (cs : List PlainCommand) (fault : LoadFault) (status : Status) → status ≡ status_of_load fault → (l : Log) (a : List Op) → OpensTo (Err fault) l a → RunsClaimed input Told cs status l a
+claimed_none input Told cs fault status is l a w = subst (λ (x : Status). RunsClaimed input Told cs x l a) (sym is) (go fault w)
+  where
+    go : (fault : LoadFault) → OpensTo (Err fault) l a → RunsClaimed input Told cs (status_of_load fault) l a
+    go (faults.Damaged d) w = claimed_damaged input Told cs d l a w
+    go faults.HostFault w = claimed_fault input Told cs HostFault (Err faults.HostFault) l a tt w
+    go faults.OutOfMemory w = claimed_fault input Told cs OutOfMemory (Err faults.OutOfMemory) l a tt w
 
 -- what is told apart stays so when staged files are removed
 apart_settled : (input : Option Files) (l : Log) (a : List Op) → ((q : Path) → IsFalse (is_staged q) → live_of (extended a l) q ≡ live_of l q) → BodiesApart input (live_of l) → BodiesApart input (live_of (extended a l))

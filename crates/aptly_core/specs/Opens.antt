@@ -11,7 +11,7 @@ use Rattle.stage_file.specs.Stage.{is_staged}
 use Rattle.machine_state.specs.declared.refusal.Refusal.{Refusal}
 use Rattle.machine_state.specs.Values.{StateView}
 use Rattle.aptly_core.specs.declared.catalogue_root.LoadFault.{LoadFault}
-use Rattle.aptly_core.specs.declared.catalogue_root.LoadFault.TheVariants.{Damaged}
+use Rattle.aptly_core.specs.declared.catalogue_root.LoadFault.TheVariants.{Damaged, HostFault, OutOfMemory}
 use Rattle.aptly_core.specs.declared.status.Damage.{Damage}
 use Rattle.aptly_core.specs.declared.status.Status.{Status}
 use Rattle.aptly_core.specs.declared.status.Status.TheVariants as statuses
@@ -46,6 +46,12 @@ pub record OpensTo (result : Result StateView LoadFault) (l : Log) (ops : List O
   pub settles : SettlesTo result l ops
   pub loads : MayLoad (live_of l) result
   pub damaged : (damage : Damage) → result ≡ Err (Damaged damage) → ops ≡ []
+
+-- how a call ends whose store gave no state
+abbrev pub status_of_load : LoadFault → Status
+status_of_load (Damaged damage) = statuses.Damaged damage
+status_of_load HostFault = statuses.HostFault
+status_of_load OutOfMemory = statuses.OutOfMemory
 
 -- a fault of an opening
 abbrev pub IsFault : Status → Type 0

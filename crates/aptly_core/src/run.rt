@@ -13,7 +13,7 @@ ghost use Rattle.aptly_core.specs.declared.catalogue_root.LoadFault.TheVariants 
 ghost use Rattle.aptly_core.specs.declared.status.Damage.{Damage};
 ghost use Rattle.aptly_core.specs.Commits.{Saves};
 ghost use Rattle.aptly_core.specs.Calls.{Called, CalledWith, IsUsageAnswer, SaysUsage, TellsUsage};
-ghost use Rattle.aptly_core.specs.Opens.{Enters, SettlesTo, OpensTo, RunsClaimed, IsClaimedStatus};
+ghost use Rattle.aptly_core.specs.Opens.{Enters, SettlesTo, OpensTo, RunsClaimed, IsClaimedStatus, status_of_load};
 ghost use Rattle.aptly_core.specs.Runs.{RunsOne, RunsList, ComesTo, EndsWith, IsRunStatus, Turns, TurnComes, IsTurnEnd, status_of_fault, next_of_done};
 ghost use Rattle.aptly_core.specs.Store.{DiffersIn, IsDifference};
 
@@ -194,6 +194,21 @@ fn open_claimed<H: Host>(alloc: Global, host: &mut H, stage: &mut Stage) -> Resu
     }
 }
 
+/// How a call ends whose store gave no state.
+fn status_of_load(fault: LoadFault) -> Status
+    ensures value { result ≡ status_of_load fault }
+    ensures damaged { (damage : Damage) → result ≡ Status.Damaged damage → fault ≡ LoadFault.Damaged damage }
+    ensures host { result ≡ Status.HostFault → fault ≡ LoadFault.HostFault }
+    ensures inbox { result ≡ Status.InboxFault → ⊥ }
+    ensures only { IsClaimedStatus result }
+{
+    match fault {
+        LoadFault::Damaged(damage) => Status::Damaged(damage),
+        LoadFault::HostFault => Status::HostFault,
+        LoadFault::OutOfMemory => Status::OutOfMemory,
+    }
+}
+
 /// Opens a store that was claimed, and runs the commands.
 fn run_claimed<H: Host, I: Inbox, M: Patterns>(
     alloc: Global,
@@ -216,9 +231,7 @@ fn run_claimed<H: Host, I: Inbox, M: Patterns>(
         Ok(state) => run_list(
             alloc, host, inbox, &mut stage, state, commands, now, patterns,
         ),
-        Err(LoadFault::Damaged(damage)) => Status::Damaged(damage),
-        Err(LoadFault::HostFault) => Status::HostFault,
-        Err(LoadFault::OutOfMemory) => Status::OutOfMemory,
+        Err(fault) => status_of_load(fault),
     }
 }
 
