@@ -1,17 +1,21 @@
 -- What a field says as a function of its text is what its pieces give from the left.
-use Rattle.std.proofs.Common.{◌≡◌, ℕ, zero, suc, ◌≤◌, Bool, false, List, [], ◌∷◌, length, Option, Some, None, Result, Ok, Err, IfOk, IfErr, refl, ap, sym, ◌∙◌, arith, length-drop}
+use Rattle.std.proofs.Common.{◌≡◌, ℕ, zero, suc, ◌≤◌, Bool, false, List, [], ◌∷◌, length, Option, Some, None, Result, Ok, Err, IfOk, IfErr, map, refl, ap, sym, ◌∙◌, arith, length-drop}
+use Rattle.std.proofs.lemmas.Option.{same_Some}
+use Rattle.std.specs.List.{flat_map}
 use Rattle.std.specs.Option.{option_map, option_and_then}
 use Rattle.depends_field.specs.declared.alternative.Alternative.{Alternative}
 use Rattle.depends_field.specs.declared.fault.DependsFault.{DependsFault}
 use Rattle.depends_field.specs.declared.fault.DependsFault.TheVariants.{At, OutOfMemory}
 use Rattle.depends_field.specs.declared.phase.Kind.{Kind}
+use Rattle.depends_field.specs.declared.phase.Kind.TheVariants.{Provides}
 use Rattle.depends_field.specs.Pieces.{IsCut, front, behind, inside_after, piece_len}
 use Rattle.depends_field.specs.Reading.{Read, start, run, finished}
 use Rattle.depends_field.specs.Faults.{IsReading, IsFaultOf}
-use Rattle.depends_field.specs.Field.{pieces, groups_in, SaysNothing}
-use Rattle.depends_field.specs.Groups.{Groups}
+use Rattle.depends_field.specs.Field.{pieces, groups_in, provides_in, SaysNothing}
+use Rattle.depends_field.specs.Groups.{Groups, ProvidesText}
 use Rattle.depends_field.proofs.Cuts.{piece_len_in}
 use Rattle.depends_field.proofs.FoundGroups.{groups_from_reading}
+use Rattle.depends_field.proofs.Readers.{provides_found, flat_singles}
 use Rattle.depends_field.proofs.OnlyGroups.{reading_from_groups}
 use Rattle.depends_field.proofs.Unique.{same_pieces, unreadable_from}
 
@@ -69,3 +73,16 @@ value_from seen kind text (Err e) h = tt
 pub nothing_from : {X : Type 0} (kind : Kind) (text : List ℕ) (r : Result X DependsFault) → IfErr r (IsFaultOf kind text) → IfErr r (SaysNothing (groups_in kind text))
 nothing_from kind text (Ok x) k = tt
 nothing_from kind text (Err e) k = nothing_from_fault kind text e k
+
+list_of : (o : Option (List (List Alternative))) (list : List Alternative) → option_map (flat_map (λ (g : List Alternative). g)) o ≡ Some list → (groups : List (List Alternative)) × (o ≡ Some groups) × (list ≡ flat_map (λ (g : List Alternative). g) groups)
+list_of None list e = cc
+list_of (Some groups) list e = (groups, refl, sym (same_Some _ _ e))
+
+pub provides_text_from_said : (text : List ℕ) (list : List Alternative) → provides_in text ≡ Some list → ProvidesText text list
+provides_text_from_said text list e =
+    let g = list_of (groups_in Provides text) list e in
+    provides_found text g.0 list (groups_from_said Provides text g.0 g.1) g.2
+
+pub said_from_provides_text : (text : List ℕ) (list : List Alternative) → ProvidesText text list → provides_in text ≡ Some list
+said_from_provides_text text list is =
+    ap (option_map (flat_map (λ (g : List Alternative). g))) (said_from_groups Provides text (map (λ (a : Alternative). a ∷ []) list) is) ∙ ap Some (flat_singles list)

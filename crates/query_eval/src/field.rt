@@ -10,7 +10,8 @@ use package_core::Package;
 use std::alloc::{AllocError, Global};
 use std::cmp::Ordering;
 
-/// Whether the field is of the file and no part of a candidate.
+/// Whether the field is of the file and no part of a package.
+#[tactic(auto, unfolding(control_stanza::specs::Fields::same_name))]
 fn is_of_file(name: &str) -> bool
     ensures { result ≡ of_file name.now }
 {
@@ -23,6 +24,7 @@ fn is_of_file(name: &str) -> bool
 }
 
 /// The value of a field, if it is there.
+#[tactic(auto, unfolding(crate::specs::Truth::value_in))]
 pub(crate) fn value_of<'p>(candidate: &'p Package, name: &str) -> Option<&'p str>
     ensures { option_copied result ≡ value_in candidate.now name.now }
 {
@@ -64,6 +66,7 @@ fn is_for_all(asked: Relation, arch: &str) -> bool
     }
 }
 
+#[tactic(auto, unfolding(deb_version::specs::VersionText::is_version))]
 fn compares_as_version(
     alloc: Global,
     asked: Relation,
@@ -80,6 +83,7 @@ fn compares_as_version(
 }
 
 /// Whether a field's value stands in the relation to a text.
+#[tactic(auto, unfolding(crate::specs::Truth::compares))]
 pub(crate) fn compares(
     alloc: Global,
     candidate: &Package,

@@ -1,6 +1,6 @@
 //! Building the regular expressions of a query.
 
-ghost use Rattle.std.specs.Prelude.{◌≡◌, ◌+◌, ◌∷◌, [], IfOk, length, map};
+ghost use Rattle.std.specs.Prelude.{◌≡◌, ◌+◌, ◌∷◌, [], IfOk, length, map, Some};
 ghost use Rattle.std.specs.Option.{option_map};
 ghost use Rattle.query_grammar.specs.Tree.{plain, plains, listed};
 ghost use Rattle.query_grammar.specs.Tree as spec;
@@ -38,12 +38,7 @@ fn copy_arch(alloc: Global, arch: &Option<Name>) -> Result<Option<Name>, AllocEr
     }
 }
 
-fn reference(
-    alloc: Global,
-    name: &Name,
-    version: &Version,
-    arch: &Name,
-) -> Result<Node, AllocError>
+fn reference(alloc: Global, name: &Name, version: &Version, arch: &Name) -> Result<Node, AllocError>
     ensures { IfOk result (λ made. node_tree made ≡ spec.reference name.now version.now arch.now) }
 {
     Ok(Node::Reference {
@@ -99,16 +94,25 @@ fn check<M: Patterns>(
     before: u64,
 ) -> Result<(Check, u64), EvalFault>
     ensures stands { IfOk result (λ made. check_test made.0 ≡ (test, text.now)) }
-    ensures count { IfOk result (λ made. made.1 ≡ before + length (pattern_of (Option.Some (test, text.now)))) }
-    ensures prepares { Prepares before (pattern_of (Option.Some (test, text.now))) (M.refusals patterns.old) (M.refusals patterns.new) (M.refused patterns.old) (M.refused patterns.new) result }
+    ensures count { IfOk result (λ made. made.1 ≡ before + length (pattern_of (Some (test, text.now)))) }
+    ensures prepares { Prepares before (pattern_of (Some (test, text.now))) (M.refusals patterns.old) (M.refusals patterns.new) (M.refused patterns.old) (M.refused patterns.new) result }
 {
     match test {
         Test::Pattern => expression(patterns, text.as_str(), before),
         Test::Glob => Ok((Check::Glob(text.copy(alloc)?), before)),
-        Test::Less => Ok((Check::Compared(Relation::Earlier, text.copy(alloc)?), before)),
-        Test::LessEqual => Ok((Check::Compared(Relation::EarlierEqual, text.copy(alloc)?), before)),
+        Test::Less => Ok((
+            Check::Compared(Relation::Earlier, text.copy(alloc)?),
+            before,
+        )),
+        Test::LessEqual => Ok((
+            Check::Compared(Relation::EarlierEqual, text.copy(alloc)?),
+            before,
+        )),
         Test::Equal => Ok((Check::Compared(Relation::Equal, text.copy(alloc)?), before)),
-        Test::GreaterEqual => Ok((Check::Compared(Relation::LaterEqual, text.copy(alloc)?), before)),
+        Test::GreaterEqual => Ok((
+            Check::Compared(Relation::LaterEqual, text.copy(alloc)?),
+            before,
+        )),
         Test::Greater => Ok((Check::Compared(Relation::Later, text.copy(alloc)?), before)),
     }
 }

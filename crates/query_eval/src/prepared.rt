@@ -56,7 +56,7 @@ impl Prepared {
         Ok(Prepared { node })
     }
 
-    /// Whether the query is true of the candidate. Fails only for want of memory.
+    /// Whether the query is true of the package. Fails only for want of memory.
     pub fn matches(&self, alloc: Global, candidate: &Package) -> Result<bool, AllocError>
         ensures { IfOk result (λ b. b ≡ is_true_of self.now candidate.now) }
     {

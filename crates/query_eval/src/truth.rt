@@ -1,4 +1,4 @@
-//! When a prepared query is true of a candidate.
+//! When a prepared query is true of a package.
 
 ghost use Rattle.std.specs.Prelude.{◌≡◌, ◌&&◌, IfOk, Some};
 ghost use Rattle.std.specs.Option.{option_map};
@@ -18,6 +18,7 @@ use deb_version::{Relation, Version};
 use package_core::Package;
 use std::alloc::{AllocError, Global};
 
+#[tactic(auto, unfolding(crate::specs::Truth::is_globbed))]
 fn passes(
     alloc: Global,
     candidate: &Package,
@@ -86,7 +87,7 @@ fn is_wanted_for(
     is_wanted(alloc, candidate, name, relation)
 }
 
-/// Whether a query is true of a candidate.
+/// Whether a query is true of a package.
 #[cycle(matches)]
 pub(crate) fn matches(alloc: Global, node: &Node, candidate: &Package) -> Result<bool, AllocError>
     ensures { IfOk result (λ b. b ≡ tree_matches (node_tree node.now) candidate.now) }

@@ -1,6 +1,7 @@
 //! When a package is what a relation field asks for (Debian Policy 7.1, 7.5).
 
 ghost use Rattle.std.specs.Prelude.{◌≡◌, IfOk, unwrap_or};
+ghost use Rattle.std.specs.List.{list_any};
 ghost use Rattle.query_eval.specs.Satisfies.{is_as_asked as as_asked, provided_version as version_in, is_provided_as_asked as provided_as_asked, provided as provided_by, is_item as item, is_itself as itself, is_wanted as wanted, is_for as for_arch, satisfies as satisfied};
 
 use ap_text::Name;
@@ -57,6 +58,12 @@ fn is_itself(candidate: &Package, name: &Name, asked: &Option<(Relation, Version
     candidate.name.as_str() == name.as_str() && is_as_asked(&candidate.version, asked)
 }
 
+fn has_item(items: &[Alternative], name: &Name, asked: &Option<(Relation, Version)>) -> bool
+    ensures { result ≡ list_any (item name.now asked.now) items.now }
+{
+    items.iter().any(|one| is_item(one, name, asked))
+}
+
 /// Whether the package is what is asked for, or provides it, whatever its architecture.
 #[tactic(auto, unfolding(crate::specs::Satisfies::is_wanted))]
 pub(crate) fn is_wanted(
@@ -71,7 +78,7 @@ pub(crate) fn is_wanted(
         return Ok(true);
     }
     let items = provided(alloc, candidate)?;
-    Ok(items.iter().any(|one| is_item(one, name, asked)))
+    Ok(has_item(&items, name, asked))
 }
 
 /// Whether the package's architecture is this one or `all`.
