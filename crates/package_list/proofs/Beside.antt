@@ -4,14 +4,14 @@ use Rattle.std.specs.Ordering.{is_eq, ordering_then, ordering_reverse}
 use Rattle.std.specs.List.{list_any}
 use Rattle.std.specs.Cmp.{IsTotalOrder}
 use Rattle.std.proofs.lemmas.Cmp.{alike_right, tied_back}
-use Rattle.std.proofs.lemmas.Bool.{true≢false, false≢true, or_parts}
+use Rattle.std.proofs.lemmas.Bool.{false≢true}
 use Rattle.std.proofs.lemmas.List.{take-append-drop}
 use Rattle.package_list.specs.Sorted.{IsBelow, IsAscending, AllLess, StartsAt, has, last_is, first_is}
 use Rattle.package_core.specs.declared.package.Package.{Package}
 use Rattle.package_core.specs.Order.{package_cmp, triple_cmp, body_cmp, same_triple}
 use Rattle.package_core.proofs.OrderLaws.{triple_total, package_total, same_triple-is}
 use Rattle.package_list.specs.Lists.{clashes}
-use Rattle.package_list.proofs.SortedLemmas.{has_behind, turned, ascending_drop, below_more}
+use Rattle.package_list.proofs.SortedLemmas.{has_at, turned, ascending_drop, below_more}
 
 -- functions that agree everywhere are one
 pub agreeing : {A B : Type 0} {f g : A → B} → ((x : A) → f x ≡ g x) → f ≡ g
@@ -100,22 +100,6 @@ module _ {X : Type 0} {T : X → X → Ordering} (S : X → X → Ordering) {R :
       by_test true h = refl
       by_test false h = h
 
-  any_first : (xs : List X) (p : X) → IsAscending R xs → StartsAt R xs p → has R xs p ≡ false → list_any (λ q. is_eq (T q p)) xs ≡ first_is (λ q. is_eq (T q p)) xs
-  any_first [] p a s h = refl
-  any_first (x ∷ xs) p a s h = any_behind x xs p a (greater (R x p) refl s (or_parts (is_eq (R x p)) (has R xs p) h).0)
-    where
-      greater : (o : Ordering) → R x p ≡ o → (R x p ≡ Less → ⊥) → is_eq (R x p) ≡ false → R p x ≡ Less
-      greater Less e s h = absurd (s e)
-      greater Equal e s h = absurd (true≢false (sym (ap is_eq e) ∙ h))
-      greater Greater e s h = turned r x p e
-
-  -- A new one has the triple of a member exactly where it has that of a neighbour.
-  pub any_beside : (xs : List X) (i : ℕ) (p : X) → IsAscending R xs → AllLess R (take i xs) p → StartsAt R (drop i xs) p → has R xs p ≡ false → list_any (λ q. is_eq (T q p)) xs ≡ (last_is (λ q. is_eq (T q p)) (take i xs) || first_is (λ q. is_eq (T q p)) (drop i xs))
-  any_beside xs i p a before starts none =
-      let whole = take-append-drop i xs in
-      ap (list_any (λ q. is_eq (T q p))) (sym whole) ∙ any_append (λ q. is_eq (T q p)) (take i xs) (drop i xs)
-      ∙ (λ k. any_before (take i xs) p (ascending_take i xs a) before k || any_first (drop i xs) p (ascending_drop r i xs a) starts (sym (has_behind r (take i xs) (drop i xs) p before) ∙ ap (λ l. has R l p) whole ∙ none) k)
-
   -- one triple, and not equal
   abbrev pub differs : X → X → Bool
   differs q p = is_eq (T q p) && not (is_eq (R q p))
@@ -143,12 +127,11 @@ module _ {X : Type 0} {T : X → X → Ordering} (S : X → X → Ordering) {R :
   first_behind (x ∷ xs) p a b = any_behind x xs p a b.0
 
   -- a package clashes with a member exactly where a neighbour has its triple
-  pub differs_beside : (xs : List X) (i j : ℕ) (p : X) → IsAscending R xs → AllLess R (take i xs) p → IsBelow R p (drop j xs)
-      → list_any (λ q. differs q p) (drop i xs) ≡ list_any (λ q. differs q p) (drop j xs)
-      → list_any (λ q. differs q p) xs ≡ (last_is (λ q. is_eq (T q p)) (take i xs) || first_is (λ q. is_eq (T q p)) (drop j xs))
-  differs_beside xs i j p a before above same =
+  pub differs_beside : (xs : List X) (i : ℕ) (p : X) → IsAscending R xs → AllLess R (take i xs) p → IsBelow R p (drop i xs)
+      → list_any (λ q. differs q p) xs ≡ (last_is (λ q. is_eq (T q p)) (take i xs) || first_is (λ q. is_eq (T q p)) (drop i xs))
+  differs_beside xs i p a before above =
       ap (list_any (λ q. differs q p)) (sym (take-append-drop i xs)) ∙ any_append (λ q. differs q p) (take i xs) (drop i xs)
-      ∙ (λ k. (differs_before (take i xs) p before ∙ any_before (take i xs) p (ascending_take i xs a) before) k || (same ∙ differs_behind (drop j xs) p above ∙ first_behind (drop j xs) p (ascending_drop r j xs a) above) k)
+      ∙ (λ k. (differs_before (take i xs) p before ∙ any_before (take i xs) p (ascending_take i xs a) before) k || (differs_behind (drop i xs) p above ∙ first_behind (drop i xs) p (ascending_drop r i xs a) above) k)
 
   -- what stands behind the place of a package, where no equal is there
   pub above_other : (x p : X) (xs : List X) → IsBelow R x xs → (R x p ≡ Less → ⊥) → is_eq (R x p) ≡ false → IsBelow R p (x ∷ xs)
@@ -165,10 +148,6 @@ module _ {X : Type 0} {T : X → X → Ordering} (S : X → X → Ordering) {R :
 
   pub above_equal : (x p : X) (xs : List X) → IsBelow R x xs → is_eq (R x p) ≡ true → IsBelow R p xs
   above_equal x p xs b h = below_equal p x xs (tied (R x p) h) b
-
-  -- an equal doesn't clash
-  pub differs_equal : (x p : X) (xs : List X) → is_eq (R x p) ≡ true → list_any (λ q. differs q p) (x ∷ xs) ≡ list_any (λ q. differs q p) xs
-  differs_equal x p xs h = rw h (ap (λ b. b || list_any (λ q. differs q p) xs) (and_false (is_eq (T x p))))
 
 pub last_is_push : {X : Type 0} (p : X → Bool) (xs : List X) (x : X) → last_is p (xs ++ x ∷ []) ≡ p x
 last_is_push p [] x = refl
@@ -188,7 +167,7 @@ take_more_at (suc n) (y ∷ ys) x rest h = ap (λ l. y ∷ l) (take_more_at n ys
 pub last_at : {X : Type 0} (p : X → Bool) (n i : ℕ) (xs : List X) (x : X) (rest : List X) → i ≡ suc n → drop n xs ≡ x ∷ rest → last_is p (take i xs) ≡ p x
 last_at p n i xs x rest e h = ap (λ k. last_is p (take k xs)) e ∙ ap (last_is p) (take_more_at n xs x rest h) ∙ last_is_push p (take n xs) x
 
-triple_begins : (x y : Package) → package_cmp x y ≡ ordering_then (triple_cmp x y) (body_cmp x y)
+pub triple_begins : (x y : Package) → package_cmp x y ≡ ordering_then (triple_cmp x y) (body_cmp x y)
 unfolding package_cmp
 triple_begins x y = refl
 
@@ -202,18 +181,21 @@ triple_last xs p = ap (λ f. last_is f xs) (agreeing (λ q. same_triple-is q p))
 triple_first : (xs : List Package) (p : Package) → first_is (λ q. same_triple q p) xs ≡ first_is (λ q. is_eq (triple_cmp q p)) xs
 triple_first xs p = ap (λ f. first_is f xs) (agreeing (λ q. same_triple-is q p))
 
-pub clash_beside : (xs : List Package) (i j : ℕ) (p : Package) → IsAscending package_cmp xs → AllLess package_cmp (take i xs) p → IsBelow package_cmp p (drop j xs)
-    → clashes (drop i xs) p ≡ clashes (drop j xs) p
-    → clashes xs p ≡ (last_is (λ q. same_triple q p) (take i xs) || first_is (λ q. same_triple q p) (drop j xs))
-clash_beside xs i j p a before above same =
-    clash-is xs p
-    ∙ differs_beside body_cmp triple_total package_total triple_begins xs i j p a before above (sym (clash-is (drop i xs) p) ∙ same ∙ clash-is (drop j xs) p)
-    ∙ (λ k. sym (triple_last (take i xs) p) k || sym (triple_first (drop j xs) p) k)
+pub clash_beside : (xs : List Package) (i : ℕ) (p : Package) → IsAscending package_cmp xs → AllLess package_cmp (take i xs) p → IsBelow package_cmp p (drop i xs)
+    → clashes xs p ≡ (last_is (λ q. same_triple q p) (take i xs) || first_is (λ q. same_triple q p) (drop i xs))
+clash_beside xs i p a before above =
+    clash-is xs p ∙ differs_beside body_cmp triple_total package_total triple_begins xs i p a before above
+    ∙ (λ k. sym (triple_last (take i xs) p) k || sym (triple_first (drop i xs) p) k)
 
 pub behind_equal : (x p : Package) (xs rest : List Package) → xs ≡ x ∷ rest → IsAscending package_cmp xs → is_eq (package_cmp x p) ≡ true → IsBelow package_cmp p rest
 behind_equal x p xs rest e a h = above_equal body_cmp triple_total package_total triple_begins x p rest (subst (IsAscending package_cmp) e a).0 h
 
-pub behind_other : (x p : Package) (xs rest : List Package) → xs ≡ x ∷ rest → IsAscending package_cmp xs → StartsAt package_cmp xs p → is_eq (package_cmp x p) ≡ false → IsBelow package_cmp p xs
-behind_other x p xs rest e a s h =
-    subst (IsBelow package_cmp p) (sym e)
-    (above_other body_cmp triple_total package_total triple_begins x p rest (subst (IsAscending package_cmp) e a).0 (subst (λ (l : List Package). StartsAt package_cmp l p) e s) h)
+-- what stands at the place of a package without an equal is greater
+pub above_new : (xs : List Package) (i : ℕ) (p : Package) → IsAscending package_cmp xs → AllLess package_cmp (take i xs) p → StartsAt package_cmp (drop i xs) p → has package_cmp xs p ≡ false → IsBelow package_cmp p (drop i xs)
+above_new xs i p a before starts none = by_rest (drop i xs) refl
+  where
+    by_rest : (rest : List Package) → drop i xs ≡ rest → IsBelow package_cmp p rest
+    by_rest [] e = tt
+    by_rest (x ∷ rest) e =
+        above_other body_cmp triple_total package_total triple_begins x p rest (subst (IsAscending package_cmp) e (ascending_drop package_total i xs a)).0
+        (subst (λ (l : List Package). StartsAt package_cmp l p) e starts) (sym (has_at package_total xs i x p rest a before starts e) ∙ none)

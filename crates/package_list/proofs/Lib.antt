@@ -3,3 +3,6 @@ pub mod Unions
 pub mod Beside
 pub mod Removal
 pub mod Keys
+mod Triples
+mod Gathers
+mod Passed

@@ -1,9 +1,10 @@
 -- What the calls of a list answer.
-use Rattle.std.specs.Prelude.{◌≡◌, ℕ, List, Bool, true, false, Result, Ok, Err, Option, Some, None, length, nat_lt, if◌then◌else◌, find}
+use Rattle.std.specs.Prelude.{◌≡◌, ℕ, List, [], ◌∷◌, ◌++◌, Bool, true, false, Result, Ok, Err, Option, Some, None, length, nat_lt, if◌then◌else◌, find}
+use Rattle.std.specs.Option.{option_or}
 use Rattle.package_core.specs.Card.{Card, triple}
 use Rattle.package_list.specs.declared.fault.ListFault.{ListFault}
 use Rattle.package_list.specs.declared.fault.ListFault.TheVariants.{Conflict, Full, OutOfMemory}
-use Rattle.package_list.specs.Lists.{has_member, clashes, union}
+use Rattle.package_list.specs.Lists.{has_member, clashes, union, joined}
 
 abbrev pub FaultIs : {T : Type 0} → ListFault → Result T ListFault → Type 0
 FaultIs OutOfMemory wanted = Unit {0}
@@ -38,3 +39,25 @@ first_clash all later = find (clashes all) later
 
 abbrev pub append_answer : List Card → List Card → Result (Unit {0}) ListFault
 append_answer xs ys = conflict_or (first_clash (union xs ys) ys) (size_answer 200000 (union xs ys))
+
+-- What keeps p from joining those before it: none of them is its equal, and one of them has its triple, or they come to
+-- 200,000 members already.
+abbrev pub refusal : List Card → Card → Option ListFault
+refusal before p =
+    if has_member before p then None
+    else if clashes before p then Some (Conflict (triple p))
+    else if nat_lt (length (joined before)) 200000 then None
+    else Some Full
+
+-- why the first of the packages that is refused can't join those before it
+abbrev pub first_refusal : List Card → List Card → Option ListFault
+first_refusal before [] = None
+first_refusal before (p ∷ ps) = option_or (refusal before p) (first_refusal (before ++ p ∷ []) ps)
+
+abbrev pub err_or : {T : Type 0} → Option ListFault → T → Result T ListFault
+err_or None x = Ok x
+err_or (Some e) x = Err e
+
+-- the packages joined in their order; the first that is refused decides
+abbrev pub join_answer : List Card → Result (List Card) ListFault
+join_answer ps = err_or (first_refusal [] ps) (joined ps)

@@ -1,5 +1,5 @@
 -- What the calls of a list make of it, in terms of its members.
-use Rattle.std.specs.Prelude.{List, Bool, IsTrue, ◌&&◌, not, bytes_eq}
+use Rattle.std.specs.Prelude.{List, [], Bool, IsTrue, ◌&&◌, not, bytes_eq}
 use Rattle.std.specs.List.{list_any, filter}
 use Rattle.std.specs.Ordering.{is_eq, is_lt}
 use Rattle.package_core.specs.Card.{Card}
@@ -9,6 +9,10 @@ use Rattle.package_list.specs.Sorted.{has, union as union_by}
 -- all of both lists; of two equals the one of the first list stays
 abbrev pub union : List Card → List Card → List Card
 union = union_by package_cmp
+
+-- packages in any order, joined into a list; of equal ones the first stays
+abbrev pub joined : List Card → List Card
+joined = union []
 
 -- the list has an equal of p in the order of packages
 abbrev pub has_member : List Card → Card → Bool

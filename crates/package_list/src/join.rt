@@ -1,12 +1,10 @@
 //! Two lists joined in one pass over both.
-ghost use Rattle.std.specs.Prelude.{◌≡◌, IfOk, OnOk, [], MatchOption, Some, None, map, ◌++◌, ◌∷◌};
+ghost use Rattle.std.specs.Prelude.{◌≡◌, IfOk, OnOk, [], MatchOption, map, ◌++◌, ◌∷◌};
 ghost use Rattle.std.specs.Rc.{rc_value};
 ghost use Rattle.package_core.specs.Order.{package_cmp};
 ghost use Rattle.package_list.specs.Sorted.{IsAscending};
 ghost use Rattle.package_list.specs.Lists.{union};
-ghost use Rattle.package_list.specs.Answers.{first_clash};
 
-use crate::place::{clashes_at, place_of};
 use package_core::{Package, compare_packages};
 use std::alloc::{AllocError, Global};
 use std::cmp::Ordering;
@@ -62,20 +60,6 @@ pub(crate) fn one_pass(
     }
     append_items(&mut all, left)?;
     Ok(all)
-}
-
-/// The first member of the later list that clashes with a member of the union.
-pub(crate) fn clash_in<'a>(all: &[Rc<Package>], later: &'a [Rc<Package>]) -> Option<&'a Package>
-    requires { IsAscending package_cmp (map rc_value all.now) }
-    ensures { MatchOption result (first_clash (map rc_value all.now) (map rc_value later.now) ≡ None) (λ p. first_clash (map rc_value all.now) (map rc_value later.now) ≡ Some p.now) }
-{
-    for one in later {
-        let place = place_of(all, one.as_ref());
-        if clashes_at(all, place, one.as_ref()) {
-            return Some(one.as_ref());
-        }
-    }
-    None
 }
 
 /// The same members, shared.

@@ -1,7 +1,10 @@
 //! Lists of packages in their order, without equals, and how two of them are joined.
 #![tactic(auto)]
 
+mod apart;
+mod by_triple;
 mod fault;
+mod gather;
 mod join;
 mod laws;
 mod list;
@@ -11,5 +14,5 @@ mod reduce;
 mod tests;
 
 pub use fault::ListFault;
-pub use laws::unions_have_what_either_has;
+pub use laws::{packages_join_in_turn, unions_have_what_either_has};
 pub use list::PackageList;

@@ -5,10 +5,12 @@ ghost use Rattle.package_core.specs.Order.{package_cmp};
 ghost use Rattle.std.specs.Option.{option_copied};
 ghost use Rattle.package_list.specs.Sorted.{put, IsAscending, equal_of};
 ghost use Rattle.package_list.specs.Lists.{union, without, has_member, merged, latest};
-ghost use Rattle.package_list.specs.Answers.{Answers, insert_answer, append_answer, size_answer};
+ghost use Rattle.package_list.specs.Answers.{Answers, insert_answer, append_answer, size_answer, join_answer};
 
+use crate::apart::apart_union_of;
 use crate::fault::ListFault;
-use crate::join::{clash_in, copy_items, union_of};
+use crate::gather::{gathered, items_of};
+use crate::join::{copy_items, union_of};
 use crate::place::{clashes_at, equal_in, found_at, is_at, place_of};
 use crate::reduce::{latest_of, merge_of};
 use package_core::Package;
@@ -17,7 +19,7 @@ use std::marker::Model;
 use std::rc::Rc;
 
 /// The members that a list may have.
-const MOST: usize = 200_000;
+pub(crate) const MOST: usize = 200_000;
 
 /// The members that the list of all known packages may have.
 const MOST_KNOWN: usize = 400_000;
@@ -67,6 +69,18 @@ impl PackageList {
         ensures { IsAscending package_cmp self.now }
     {
         let _ = &self.items;
+    }
+
+    /// The packages joined in the order in which they stand; of equal ones the first stays. The first that can't join those
+    /// before it decides the fault: `Conflict` where none of those is its equal and one of them has its triple; else `Full`
+    /// where it would be the 200,001st member. It takes n log n comparisons, and moves each package once.
+    pub fn from_packages(alloc: Global, packages: Vec<Package>) -> Result<PackageList, ListFault>
+        ensures { Answers result (join_answer packages.items) }
+    {
+        let members = gathered(alloc, packages)?;
+        Ok(PackageList {
+            items: items_of(alloc, members)?,
+        })
     }
 
     /// The number of members.
@@ -144,10 +158,7 @@ impl PackageList {
         ensures ok { OnOk result (self.new ≡ union self.old later.now) }
         ensures err { OnErr result (self.new ≡ self.old) }
     {
-        let all = union_of(alloc, &self.items, &later.items)?;
-        if let Some(clash) = clash_in(&all, &later.items) {
-            return Err(ListFault::Conflict(clash.triple(alloc)?));
-        }
+        let all = apart_union_of(alloc, &self.items, &later.items)?;
         if all.len() > MOST {
             return Err(ListFault::Full);
         }

@@ -3,7 +3,7 @@ ghost use Rattle.std.specs.Prelude.{◌≡◌, ◌≤◌, ◌<◌, ◌+◌, leng
 ghost use Rattle.std.specs.Rc.{rc_value};
 ghost use Rattle.package_core.specs.Order.{package_cmp, same_triple};
 ghost use Rattle.std.specs.Option.{option_copied};
-ghost use Rattle.package_list.specs.Sorted.{IsAscending, IsBelow, AllLess, StartsAt, first_is, last_is, equal_of};
+ghost use Rattle.package_list.specs.Sorted.{IsAscending, AllLess, StartsAt, first_is, last_is, equal_of};
 ghost use Rattle.package_list.specs.Lists.{has_member, clashes, without};
 
 use package_core::{Package, compare_packages, has_same_triple};
@@ -86,38 +86,19 @@ pub(crate) fn equal_in<'a>(items: &'a [Rc<Package>], wanted: &Package) -> Option
     }
 }
 
-/// Whether a member clashes with the package. Those of its triple stand around its place.
+/// Whether a member clashes with a package that has no equal. Those of its triple stand beside its place.
 pub(crate) fn clashes_at(items: &[Rc<Package>], place: usize, wanted: &Package) -> bool
     requires inside { place ≤ length items.now }
     requires ascending { IsAscending package_cmp (map rc_value items.now) }
     requires before { AllLess package_cmp (take place (map rc_value items.now)) wanted.now }
     requires behind { StartsAt package_cmp (drop place (map rc_value items.now)) wanted.now }
+    requires new { has_member (map rc_value items.now) wanted.now ≡ false }
     ensures { result ≡ clashes (map rc_value items.now) wanted.now }
 {
-    let behind = place_behind(items, place, wanted);
-    last_has_triple(items, place, wanted) || first_has_triple(items, behind, wanted)
+    last_has_triple(items, place, wanted) || first_has_triple(items, place, wanted)
 }
 
-/// The first place at or after the package's own whose member is greater.
-fn place_behind(items: &[Rc<Package>], place: usize, wanted: &Package) -> usize
-    requires ascending { IsAscending package_cmp (map rc_value items.now) }
-    requires behind { StartsAt package_cmp (drop place (map rc_value items.now)) wanted.now }
-    ensures above { IsBelow package_cmp wanted.now (drop result (map rc_value items.now)) }
-    ensures same { clashes (drop place (map rc_value items.now)) wanted.now ≡ clashes (drop result (map rc_value items.now)) wanted.now }
-{
-    match member_at(items, place) {
-        Some(member) => {
-            if compare_packages(member, wanted).is_eq() {
-                place + 1
-            } else {
-                place
-            }
-        }
-        None => place,
-    }
-}
-
-fn first_has_triple(items: &[Rc<Package>], place: usize, wanted: &Package) -> bool
+pub(crate) fn first_has_triple(items: &[Rc<Package>], place: usize, wanted: &Package) -> bool
     ensures { result ≡ first_is (λ q. same_triple q wanted.now) (drop place (map rc_value items.now)) }
 {
     match member_at(items, place) {
@@ -126,7 +107,7 @@ fn first_has_triple(items: &[Rc<Package>], place: usize, wanted: &Package) -> bo
     }
 }
 
-fn last_has_triple(items: &[Rc<Package>], place: usize, wanted: &Package) -> bool
+pub(crate) fn last_has_triple(items: &[Rc<Package>], place: usize, wanted: &Package) -> bool
     requires { place ≤ length items.now }
     ensures { result ≡ last_is (λ q. same_triple q wanted.now) (take place (map rc_value items.now)) }
 {

@@ -5,11 +5,15 @@ use package_core::Package;
 use std::alloc::Global;
 
 const FILE: &str =
-    "Filename: x.deb\nSize: 3\nSHA256: ba7816bf8f01cfea414140de5dae2223b00361a396177a9cb410ff61f20015ad\n";
+    "Filename: x.deb\nSHA256: ba7816bf8f01cfea414140de5dae2223b00361a396177a9cb410ff61f20015ad\n";
 
 /// The package of the fields before those of its file.
 fn made(alloc: Global, fields: &str) -> Option<Package> {
-    let text = format!(in alloc; "{}\nArchitecture: amd64\n{}", fields, FILE).ok()?;
+    made_with_size(alloc, fields, "3")
+}
+
+fn made_with_size(alloc: Global, fields: &str, size: &str) -> Option<Package> {
+    let text = format!(in alloc; "{}\nArchitecture: amd64\nSize: {}\n{}", fields, size, FILE).ok()?;
     let stanza = read_stanzas(alloc, text.as_bytes()).ok()?.pop()?.1;
     Some(Package::from_stanza(alloc, &stanza).ok()?.0)
 }
@@ -83,8 +87,8 @@ fn answers(alloc: Global) -> Option<(Option<ListFault>, Option<ListFault>, bool,
     Some((appended, inserted, had, gone))
 }
 
-fn is_conflict(fault: &Option<ListFault>) -> bool {
-    matches!(fault, Some(ListFault::Conflict(triple)) if triple.as_str() == "bb_1_amd64")
+fn is_conflict(fault: &ListFault) -> bool {
+    matches!(fault, ListFault::Conflict(triple) if triple.as_str() == "bb_1_amd64")
 }
 
 #[test]
@@ -93,5 +97,52 @@ fn another_text_of_one_version_is_a_conflict(rt: HostRuntime) {
         assert!(&rt; false, "no answers");
         return;
     };
-    assert!(&rt; is_conflict(&appended) && is_conflict(&inserted) && had && gone);
+    assert!(&rt; matches!(&appended, Some(fault) if is_conflict(fault)));
+    assert!(&rt; matches!(&inserted, Some(fault) if is_conflict(fault)));
+    assert!(&rt; had && gone);
+}
+
+/// What these packages, each with its size, are joined into.
+fn joined_from(alloc: Global, packages: &[(&str, &str)]) -> Option<Result<PackageList, ListFault>> {
+    let mut made = Vec::new(alloc);
+    for (fields, size) in packages {
+        made.push(made_with_size(alloc, fields, size)?).ok()?;
+    }
+    Some(PackageList::from_packages(alloc, made))
+}
+
+/// Whether the list has members of these versions and sizes, and finds each by its equal.
+fn has_sizes(list: &PackageList, wanted: &[(&str, u64)]) -> bool {
+    let mut same = list.as_slice().len() == wanted.len();
+    for (member, (version, size)) in list.as_slice().iter().zip(wanted) {
+        let found = list.equal_of(member.as_ref());
+        same = same
+            && member.version.as_str() == *version
+            && member.said.size == *size
+            && matches!(found, Some(equal) if equal.said.size == *size);
+    }
+    same
+}
+
+#[test]
+fn packages_are_joined_in_their_order(rt: HostRuntime) {
+    let (one, two) = ("Package: aa\nVersion: 1.0", "Package: bb\nVersion: 1");
+    let other_one = "Package: aa\nVersion: 1.0\nDescription: another";
+    let other_two = "Package: bb\nVersion: 1\nDescription: another";
+    let alloc = rt.alloc();
+
+    let joined = joined_from(alloc, &[(two, "3"), (one, "4"), (two, "5"), (one, "6")]);
+    assert!(&rt; matches!(&joined, Some(Ok(list)) if has_sizes(list, &[("1.0", 4), ("1", 3)])));
+
+    let clashing = joined_from(
+        alloc,
+        &[
+            (two, "3"),
+            (one, "3"),
+            (one, "4"),
+            (other_two, "3"),
+            (other_one, "3"),
+        ],
+    );
+    assert!(&rt; matches!(&clashing, Some(Err(fault)) if is_conflict(fault)));
 }
