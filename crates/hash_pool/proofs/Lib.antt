@@ -1,1 +1,7 @@
 pub mod NameLemmas
+pub mod OnwardLemmas
+pub mod GrowthLemmas
+pub mod SetLemmas
+pub mod LodgeLemmas
+pub mod ReadLemmas
+pub mod AnswerLemmas

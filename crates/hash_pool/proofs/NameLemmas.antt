@@ -1,5 +1,5 @@
 -- The names of pool files.
-use Rattle.std.proofs.Common.{◌≡◌, ℕ, zero, suc, ◌+◌, ◌*◌, ◌/◌, ◌%◌, ◌<◌, ◌≤◌, Bool, true, false, ◌&&◌, leb, eqb, nat_eq, ◌==◌, List, [], ◌∷◌, ◌++◌, length, drop, get_or, codes, Some, Result, Ok, IsTrue, IsFalse, refl, sym, ◌∙◌, ap, subst, arith, length-append}
+use Rattle.std.proofs.Common.{◌≡◌, ℕ, zero, suc, ◌/◌, ◌%◌, ◌<◌, ◌≤◌, Bool, true, false, ◌&&◌, leb, eqb, nat_eq, ◌==◌, List, [], ◌∷◌, ◌++◌, length, drop, codes, Result, Ok, IsTrue, IsFalse, refl, sym, ◌∙◌, ap, subst, arith, length-append}
 use Rattle.std.specs.Prelude.{slice_index}
 use Rattle.std.specs.Int.{to_be_bytes, w32}
 use Rattle.std.specs.List.{list_all, starts_with}
@@ -12,10 +12,10 @@ use Rattle.hex.proofs.HexLemmas.{length-encode_with, decode_of-encode_lower}
 use Rattle.ap_text.specs.Names.{is_alphanumeric, is_name_byte, begins_alphanumeric, is_name}
 use Rattle.ap_text.specs.Paths.{below_folder, is_safe_path}
 use Rattle.ap_text.proofs.JoinLemmas.{below_joined, safe_name}
-use Rattle.ap_host.specs.Disk.{Path, Files, Log, live_of}
+use Rattle.ap_host.specs.Disk.{Path, live_of}
 use Rattle.ap_host.proofs.LegalLemmas.{law_of_live_image}
 use Rattle.stage_file.specs.Stage.{is_staged, stage_path}
-use Rattle.hash_pool.specs.Names.{folder, is_pooled, pool_name, IsDigest, IsNamed, Named, PoolNames}
+use Rattle.hash_pool.specs.Names.{folder, is_pooled, pool_name, IsDigest, PoolNames}
 
 -- a SHA-256 is 32 bytes
 

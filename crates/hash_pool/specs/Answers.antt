@@ -1,5 +1,5 @@
 -- What the calls answer.
-use Rattle.std.specs.Prelude.{◌≡◌, ℕ, List, Option, Some, None, Result, Ok, Err}
+use Rattle.std.specs.Prelude.{◌≡◌, ℕ, List, Option, Some, None, Result, Ok, Err, IfOk}
 use Rattle.std.specs.Option.{ForSome}
 use Rattle.ap_host.specs.Disk.{Path, Content, Files}
 use Rattle.digest_set.specs.declared.facts.Digests.{Digests}
@@ -41,3 +41,14 @@ Compares said (Err fault) = IsDifference said fault
 -- the file of the inbox has these bytes, if the inbox tells
 abbrev pub IsInput : Option Files → Path → List ℕ → Type 0
 IsInput map path bytes = ForSome map (λ f. f path ≡ Some bytes)
+
+-- the bytes that were handed, which don't differ from what is said
+abbrev pub IsPut : List ℕ → Said → List ℕ → Type 0
+IsPut given said bytes = (bytes ≡ given) × (difference said (digests_of bytes) ≡ None)
+
+-- The bytes that were read: they are the file's, if the inbox tells, they don't differ from what is said, and the facts that are
+-- answered are theirs.
+pub record IsTaken (map : Option Files) (path : Path) (said : Said) (result : Result Digests PoolFault) (bytes : List ℕ) : Type 0 where
+  pub input : IsInput map path bytes
+  pub same : difference said (digests_of bytes) ≡ None
+  pub facts : IfOk result (λ digests. digests ≡ digests_of bytes)

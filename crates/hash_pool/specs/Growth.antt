@@ -4,7 +4,7 @@ use Rattle.std.specs.List.{AllByRecursion}
 use Rattle.sha2.specs.Sha256.{sha256}
 use Rattle.ap_host.specs.declared.host.Op.{Op}
 use Rattle.ap_host.specs.declared.host.Op.TheVariants.{Create, Append, Sync, Rename, Remove, Barrier, Say, Claim}
-use Rattle.ap_host.specs.Disk.{Path, Content, Log, disk_of, live_of, extended, Throughout}
+use Rattle.ap_host.specs.Disk.{Path, Content, Log, disk_of, live_of, extended, said, Images, Throughout}
 use Rattle.ap_host.specs.Changes.{EachOp}
 use Rattle.stage_file.specs.Stage.{is_staged}
 use Rattle.hash_pool.specs.Names.{is_pooled, pool_name, Named}
@@ -64,6 +64,11 @@ pub record Growths : Type 0 where
   pub then : (l : Log) (a b : List Op) → PoolGrows l a → PoolGrows (extended a l) b → PoolGrows l (a ++ b)
   -- at each moment it has grown since the start
   pub moments : (l : Log) (ops : List Op) → PoolGrows l ops → Throughout (HasGrown l) l ops
+  -- so whatever a stop leaves has, outside the folder of staged files, what it might have had, or a pool file named by its SHA-256
+  pub images : (l m : Log) → HasGrown l m → Images m (λ f. (p : Path) → IsFalse (is_staged p) → (disk_of l).may p (f p) ⊎ IsBody p (f p))
+  -- nothing was said, and each target is a pool name that wasn't there
+  pub quiet : (l : Log) (ops : List Op) → PoolGrows l ops → said ops ≡ []
+  pub new : (l : Log) (ops : List Op) → PoolGrows l ops → AllByRecursion (λ p. IsTrue (is_pooled p) × (live_of l p ≡ None)) (targets ops)
   -- what is there, outside the folder of staged files, stays
   pub stays : (l m : Log) (p : Path) → HasGrown l m → IsFalse (is_staged p) → IsSome (live_of l p) → live_of m p ≡ live_of l p
   -- what is elsewhere is as it was

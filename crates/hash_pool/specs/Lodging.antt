@@ -6,7 +6,7 @@ use Rattle.ap_host.specs.declared.host.Op.{Op}
 use Rattle.ap_host.specs.declared.host.Op.TheVariants.{Create, Append, Sync, Rename, Remove, Barrier, Say, Claim}
 use Rattle.ap_host.specs.Disk.{Path, Content, Log, disk_of, live_of, extended, Throughout}
 use Rattle.ap_host.specs.Changes.{EachOp}
-use Rattle.stage_file.specs.Stage.{StageState, is_staged, IsMarked, IsInStep}
+use Rattle.stage_file.specs.Stage.{StageState, counted, is_staged, IsMarked, IsInStep}
 use Rattle.hash_pool.specs.Names.{pool_name}
 use Rattle.hash_pool.specs.Growth.{PoolGrows, Onward, targets}
 
@@ -35,7 +35,11 @@ pub record Sets {T E : Type 0} (path : Path) (bytes : List ℕ) (old new : Stage
   pub target : (targets added ≡ []) ⊎ ((targets added ≡ path ∷ []) × (live_of (extended added l) path ≡ Some bytes))
   pub onward : IsFalse (is_staged path) → Onward (SetsOne path bytes) l added
   pub set : OnOk result (live_of (extended added l) path ≡ Some bytes)
-  pub marked : IsTrue new.touched
+  pub stage : new ≡ counted old
+
+-- at a later moment the name of this SHA-256 has what it had, or given bytes of this SHA-256 where it had none
+abbrev pub IsHeld : (List ℕ → Type 0) → List ℕ → Log → Log → Type 0
+IsHeld IsGiven said l m = (bytes : List ℕ) × IsGiven bytes × (sha256 bytes ≡ said) × (live_of m (pool_name said) ≡ option_or (live_of l (pool_name said)) (Some bytes))
 
 -- A file was put into the pool under the said SHA-256, or the call broke off on the way. IsGiven tells which bytes it may have.
 pub record Lodges {T E : Type 0} (IsGiven : List ℕ → Type 0) (said : List ℕ) (old new : StageState) (result : Result T E) (l : Log) (added : List Op) : Type 0 where
@@ -45,7 +49,8 @@ pub record Lodges {T E : Type 0} (IsGiven : List ℕ → Type 0) (said : List �
   pub target : (targets added ≡ []) ⊎ (targets added ≡ pool_name said ∷ [])
   -- nothing was done, or at each moment the name has what it had, or the given bytes, whole
   pub whole : (added ≡ []) ⊎ ((bytes : List ℕ) × IsGiven bytes × (sha256 bytes ≡ said) × Throughout (SetsOne (pool_name said) bytes l) l added)
-  -- at the end the name has what it had, or the given bytes where it had none
-  pub held : OnOk result ((bytes : List ℕ) × IsGiven bytes × (sha256 bytes ≡ said) × (live_of (extended added l) (pool_name said) ≡ option_or (live_of l (pool_name said)) (Some bytes)))
+  pub held : OnOk result (IsHeld IsGiven said l (extended added l))
+  -- at most one staged file was laid
+  pub stage : ((added ≡ []) × (new ≡ old)) ⊎ (new ≡ counted old)
   pub marked : IsMarked old new added
   pub step : IsInStep old l → IsInStep new (extended added l)

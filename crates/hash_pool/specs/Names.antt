@@ -3,7 +3,7 @@ use Rattle.std.specs.Prelude.{◌≡◌, ℕ, Bool, List, Some, IsTrue, length, 
 use Rattle.sha2.specs.Sha256.{sha256}
 use Rattle.hex.specs.Hex.{IsBytes, encode_lower}
 use Rattle.ap_text.specs.Paths.{below_folder, is_below}
-use Rattle.ap_host.specs.Disk.{Path, Content, Files, Log, Images, live_of}
+use Rattle.ap_host.specs.Disk.{Path, Files, Log, Images, live_of}
 
 abbrev pub folder : Path
 folder = codes "pool"

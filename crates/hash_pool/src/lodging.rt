@@ -1,11 +1,10 @@
 // A file is put into the pool.
-ghost use Rattle.std.specs.Prelude.{◌≡◌, ◌∷◌, [], IsFalse, IsErrOf, Some};
+ghost use Rattle.std.specs.Prelude.{◌≡◌, IsErrOf, Some};
 ghost use Rattle.ap_host.specs.Calls.{CauseOf, HasCause};
 ghost use Rattle.ap_host.specs.Changes.{GoesOn};
 ghost use Rattle.sha2.specs.Sha256.{sha256 as sha256_of};
-ghost use Rattle.stage_file.specs.Stage.{is_staged};
 ghost use Rattle.hash_pool.specs.declared.fault.PoolFault.TheVariants.{HostFault, InboxFault};
-ghost use Rattle.hash_pool.specs.Answers.{IsAnswer};
+ghost use Rattle.hash_pool.specs.Answers.{IsAnswer, IsPut};
 ghost use Rattle.hash_pool.specs.Lodging.{Sets, Lodges};
 
 use crate::fault::PoolFault;
@@ -75,7 +74,7 @@ pub fn put<H: Host>(
     said: &Said,
 ) -> Result<Digests, PoolFault>
     ensures answer { IsAnswer (Some bytes.now) said.now result }
-    ensures log { GoesOn (H.log host.old) (H.log host.new) (Lodges (λ b. b ≡ bytes.now) said.now.sha256 stage.old stage.new result) }
+    ensures log { GoesOn (H.log host.old) (H.log host.new) (Lodges (IsPut bytes.now said.now) said.now.sha256 stage.old stage.new result) }
     ensures cause { CauseOf HostFault (H.faults host.old) (H.faults host.new) result }
     ensures inbox { IsErrOf result InboxFault → ⊥ }
 {

@@ -1,5 +1,5 @@
 //! Files of a store and of an inbox, read into memory.
-ghost use Rattle.std.specs.Prelude.{◌≡◌, ◌+◌, ◌<◌, ◌≤◌, length, IfOk, unwrap_or};
+ghost use Rattle.std.specs.Prelude.{◌≡◌, ◌+◌, ◌<◌, ◌≤◌, min, length, IfOk};
 ghost use Rattle.std.specs.Option.{ForSome};
 ghost use Rattle.ap_host.specs.Disk.{live_of};
 ghost use Rattle.ap_host.specs.Calls.{HasCause, HasInboxCause};
@@ -12,18 +12,14 @@ use std::alloc::Global;
 // how many bytes one read asks for at most
 const PIECE: usize = 16384;
 
-/// How many bytes the next read asks for, of a file that is read up to a place and has been read up to an earlier one.
-fn room(at: usize, upto: u64) -> usize
-    requires { at < upto }
-    ensures within { result ≤ 16384 }
-    ensures left { at + result ≤ upto }
-    ensures some { 0 < result }
+/// How many of the bytes that a read gave are kept, where so many are left up to the place that was asked for.
+fn kept(given: usize, left: u64) -> usize
+    ensures { result ≡ min given left }
 {
-    let left = upto - at as u64;
-    if left < PIECE as u64 {
-        left as usize
+    if (given as u64) < left {
+        given
     } else {
-        PIECE
+        left as usize
     }
 }
 
@@ -42,8 +38,8 @@ fn read_more<H: Host>(
     ensures cause { HasCause (H.faults host.old) (H.faults host.new) result }
 {
     let mut piece = [0u8; PIECE];
-    let room = room(bytes.len(), upto);
-    let n = host.read_at(path, bytes.len() as u64, &mut piece[..room])?;
+    let given = host.read_at(path, bytes.len() as u64, &mut piece)?;
+    let n = kept(given, upto - bytes.len() as u64);
     bytes.extend(&piece[..n])?;
     Ok(n)
 }
@@ -102,8 +98,8 @@ fn take_more<I: Inbox>(
     ensures cause { HasInboxCause (I.faults inbox.old) (I.faults inbox.new) result }
 {
     let mut piece = [0u8; PIECE];
-    let room = room(bytes.len(), upto);
-    let n = inbox.read_at(path, bytes.len() as u64, &mut piece[..room])?;
+    let given = inbox.read_at(path, bytes.len() as u64, &mut piece)?;
+    let n = kept(given, upto - bytes.len() as u64);
     bytes.extend(&piece[..n])?;
     Ok(n)
 }

@@ -6,7 +6,7 @@ ghost use Rattle.ap_host.specs.Calls.{CauseOf};
 ghost use Rattle.ap_host.specs.Changes.{GoesOn};
 ghost use Rattle.digest_set.specs.declared.facts.What.TheVariants as whats;
 ghost use Rattle.hash_pool.specs.declared.fault.PoolFault.TheVariants.{Mismatch, HostFault, InboxFault};
-ghost use Rattle.hash_pool.specs.Answers.{IsAnswer, IsFound, IsDifference, Compares, IsInput};
+ghost use Rattle.hash_pool.specs.Answers.{IsAnswer, IsFound, IsDifference, Compares, IsTaken};
 ghost use Rattle.hash_pool.specs.Lodging.{Lodges};
 
 use crate::fault::PoolFault;
@@ -64,7 +64,7 @@ pub fn take<H: Host, I: Inbox>(
 ) -> Result<Digests, PoolFault>
     ensures told { ForSome (I.map inbox.old) (λ f. IsAnswer (f path.now) said.now result) }
     ensures compares { Compares said.now result }
-    ensures log { GoesOn (H.log host.old) (H.log host.new) (Lodges (IsInput (I.map inbox.old) path.now) said.now.sha256 stage.old stage.new result) }
+    ensures log { GoesOn (H.log host.old) (H.log host.new) (Lodges (IsTaken (I.map inbox.old) path.now said.now result) said.now.sha256 stage.old stage.new result) }
     ensures map { I.map inbox.new ≡ I.map inbox.old }
     ensures cause { CauseOf HostFault (H.faults host.old) (H.faults host.new) result }
     ensures input { CauseOf InboxFault (I.faults inbox.old) (I.faults inbox.new) result }

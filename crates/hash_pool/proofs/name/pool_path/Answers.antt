@@ -1,4 +1,4 @@
-use Rattle.std.proofs.Common.{◌≡◌, ◌≤◌, List, ℕ, length, IsTrue, IfOk, subst, sym, ap, ◌∙◌}
+use Rattle.std.proofs.Common.{◌≡◌, ◌≤◌, List, ℕ, length, IsTrue, subst, sym, ap, ◌∙◌}
 use Rattle.ap_text.specs.Paths.{is_safe_path, below_folder}
 use Rattle.ap_host.proofs.ListLemmas.{if_ok}
 use Rattle.hash_pool.specs.Names.{folder, pool_name, IsDigest}
