@@ -6,3 +6,6 @@ pub mod TextLemmas
 pub mod PackageLemmas
 pub mod StanzaLaws
 pub mod OrderLaws
+pub mod PlainLemmas
+pub mod ReadBack
+pub mod WholeLemmas

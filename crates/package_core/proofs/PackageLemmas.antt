@@ -78,27 +78,27 @@ eq_bytes (x ∷ xs) (y ∷ ys) h = step x y xs ys (nat_eq x y) (same x y) (eq_by
     step x y xs ys false e f h = cc
 
 -- a name that is another one but for case is of the file where that one is
-same_kind : (a n : List ℕ) → same_name a n ≡ true → is_of_file a ≡ is_of_file n
+pub same_kind : (a n : List ℕ) → same_name a n ≡ true → is_of_file a ≡ is_of_file n
 unfolding same_name
 same_kind a n h = ap (λ (l : List ℕ). bytes_eq l (lower (codes "Filename")) || bytes_eq l (lower (codes "Size")) || bytes_eq l (lower (codes "MD5sum")) || bytes_eq l (lower (codes "SHA1")) || bytes_eq l (lower (codes "SHA256")) || bytes_eq l (lower (codes "SHA512"))) (eq_bytes (lower a) (lower n) h)
 
-own_value : (fields : List Field) (n : List ℕ) → is_of_file n ≡ false → value_of (own_fields fields) n ≡ value_of fields n
+pub own_value : (fields : List Field) (n : List ℕ) → is_of_file n ≡ false → value_of (own_fields fields) n ≡ value_of fields n
 unfolding value_of own_fields
 own_value fields n h = ap (option_map (λ (f : Field). f.value)) (find-filter (λ (f : Field). same_name f.name n) (λ (f : Field). not (is_of_file f.name)) (λ f e. ap not (same_kind f.name n e ∙ h)) fields)
 
-name_stays : is_of_file (codes "Package") ≡ false
+pub name_stays : is_of_file (codes "Package") ≡ false
 unfolding same_name
 name_stays = refl
 
-version_stays : is_of_file (codes "Version") ≡ false
+pub version_stays : is_of_file (codes "Version") ≡ false
 unfolding same_name
 version_stays = refl
 
-architecture_stays : is_of_file (codes "Architecture") ≡ false
+pub architecture_stays : is_of_file (codes "Architecture") ≡ false
 unfolding same_name
 architecture_stays = refl
 
-source_stays : is_of_file (codes "Source") ≡ false
+pub source_stays : is_of_file (codes "Source") ≡ false
 unfolding same_name
 source_stays = refl
 

@@ -20,7 +20,7 @@ begins a b rest false is h = refl
 are_dots : (a b : ℕ) → (a == 46 && b == 47) ≡ true → (a ≡ 46) × (b ≡ 47)
 are_dots a b h = grind (arith, nat_tests)
 
-no_dots : (text : List ℕ) → ((more : List ℕ) → text ≡ 46 ∷ 47 ∷ more → ⊥) → without_dots text ≡ text
+pub no_dots : (text : List ℕ) → ((more : List ℕ) → text ≡ 46 ∷ 47 ∷ more → ⊥) → without_dots text ≡ text
 no_dots [] h = refl
 no_dots (a ∷ []) h = refl
 no_dots (a ∷ b ∷ rest) h = begins a b rest (a == 46 && b == 47) (are_dots a b) h
@@ -71,7 +71,7 @@ not_long : (a b c : Bool) → (not a && not b && c) ≡ true → a ≡ false
 not_long true b c h = cc
 not_long false b c h = refl
 
-segment_is_short : (s : List ℕ) → is_segment s ≡ true → length s ≤ 255
+pub segment_is_short : (s : List ℕ) → is_segment s ≡ true → length s ≤ 255
 segment_is_short s h = ltb-false 255 (length s) (not_long (is_long_segment s) (is_no_entry s) (list_all is_path_byte s) h)
 
 all_first : (s : List ℕ) (ss : List (List ℕ)) → list_all is_segment (s ∷ ss) ≡ true → (is_segment s ≡ true) × (list_all is_segment ss ≡ true)

@@ -19,7 +19,7 @@ no_text f fs h = some _ _ _ h
 read_one : (f : Field) (fs : List Field) → is_stanza (f ∷ fs) ≡ true → stanzas_from None 1 None (lines_of (stanza_text (f ∷ fs))) ≡ Ok ((1, f ∷ fs) ∷ [])
 read_one f fs h = only None ((1, f ∷ fs) ∷ []) 1 _ (text_reads None (f ∷ fs) h (λ e. cc) refl)
 
-one_of : {F : Type 0} (p q : ℕ × List Field) (r s : Result (List (ℕ × List Field)) F) → r ≡ Ok (p ∷ []) → s ≡ Ok (q ∷ []) → r ≡ s → p.1 ≡ q.1
+pub one_of : {F : Type 0} (p q : ℕ × List Field) (r s : Result (List (ℕ × List Field)) F) → r ≡ Ok (p ∷ []) → s ≡ Ok (q ∷ []) → r ≡ s → p.1 ≡ q.1
 one_of p q r s a b e = let h : p ≡ q = cc in ap (λ (t : ℕ × List Field). t.1) h
 
 pub one_text : (xs ys : List Field) → is_stanza xs ≡ true → is_stanza ys ≡ true → stanza_text xs ≡ stanza_text ys → xs ≡ ys

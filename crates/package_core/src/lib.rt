@@ -9,6 +9,7 @@ mod package;
 mod path;
 mod reading;
 mod said;
+mod sizes;
 mod source;
 mod stored;
 mod text;

@@ -8,6 +8,7 @@ ghost use Rattle.package_core.specs.Whole.{IsSaid, IsWhole, IsTextOf};
 
 use crate::fault::{CompleteFault, PackageFault};
 use crate::reading::read_package;
+use crate::sizes::as_said;
 use crate::source::parts;
 use crate::stored::package_of;
 use crate::text::text_of;
@@ -69,12 +70,7 @@ impl Package {
         if let Some((what, said, found)) = mismatch(alloc, &self.said, found)? {
             return Err(CompleteFault::Differs(what, said, found));
         }
-        self.said = Said {
-            size: found.size,
-            sha256: found.sha256,
-            sha1: Some(found.sha1),
-            md5: Some(found.md5),
-        };
+        self.said = as_said(found);
         Ok(())
     }
 

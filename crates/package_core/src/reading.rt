@@ -8,6 +8,7 @@ ghost use Rattle.package_core.specs.Fields.{is_architecture, own_fields};
 ghost use Rattle.package_core.specs.Faults.{field_name, fault_of, bad_identity, bad_said, FaultIs};
 ghost use Rattle.package_core.specs.Card.{card_of, said_in, path_in};
 ghost use Rattle.package_core.specs.Answers.{Reads, HasTexts};
+ghost use Rattle.package_core.specs.Whole.{IsSaid};
 
 use crate::fault::{PackageFault, Required};
 use crate::package::Package;
@@ -133,6 +134,7 @@ fn read_identity(alloc: Global, stanza: &Stanza, texts: Texts<'_>) -> Result<Ide
 fn read_said(stanza: &Stanza, texts: Texts<'_>) -> Result<Said, PackageFault>
     requires { HasTexts stanza.now texts }
     ensures value { IfOk result (λ made. made ≡ said_in stanza.now) }
+    ensures sizes { IfOk result IsSaid }
     ensures good { IfOk result (λ made. bad_said stanza.now ≡ None) }
     ensures fault { IfErr result (FaultIs (bad_said stanza.now)) }
 {
@@ -171,6 +173,7 @@ pub(crate) fn read_package(
     ensures good { IfOk result (λ made. fault_of stanza.now ≡ None) }
     ensures one { IfOk result (λ made. segments made.0.file ≡ made.0.file ∷ []) }
     ensures stanza { IfOk result (λ made. is_stanza made.0.stanza ≡ true) }
+    ensures said { IfOk result (λ made. IsSaid made.0.said) }
     ensures fault { IfErr result (FaultIs (fault_of stanza.now)) }
 {
     let texts = required_texts(stanza)?;

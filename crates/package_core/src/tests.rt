@@ -81,6 +81,38 @@ fn the_example_is_a_package(rt: HostRuntime) -> Result<(), Fail> {
     Ok(())
 }
 
+/// The example's text, where one part of it is another.
+fn altered(alloc: Global, old: &str, new: &str) -> Option<String> {
+    let (before, behind) = HELLO_TEXT.split_once(old)?;
+    format!(in alloc; "{}{}{}", before, new, behind).ok()
+}
+
+#[test]
+fn a_text_is_read_back_and_no_other(rt: HostRuntime) -> Result<(), Fail> {
+    let alloc = rt.alloc();
+    let hello = Package::read_text(alloc, HELLO_TEXT.as_bytes())?.ok_or("a package")?;
+    assert_eq!(rt; hello.text(alloc)?.as_str(), HELLO_TEXT);
+    assert_eq!(rt; hello.triple(alloc)?.as_str(), "hello_2.10-2_amd64");
+    assert_eq!(rt; hello.said.size, 3);
+    let rows: [(&str, &str); 9] = [
+        ("Package", "\nPackage"),
+        ("Maintainer: ", "Maintainer:"),
+        ("Filename: hello", "Filename: ./hello"),
+        ("Filename: hello", "Filename: pool/hello"),
+        ("Size: 3", "Size: 03"),
+        ("MD5sum: 900150983cd24fb0d6963f7d28e17f72\n", ""),
+        ("a9993e36", "A9993e36"),
+        ("f20015ad\n", "f20015ad"),
+        ("f20015ad\n", "f20015ad\n\nA: 1\n"),
+    ];
+    for (old, new) in rows {
+        let text = altered(alloc, old, new).ok_or("a text")?;
+        assert!(rt; Package::read_text(alloc, text.as_bytes())?.is_none());
+    }
+    assert!(rt; Package::read_text(alloc, b"")?.is_none());
+    Ok(())
+}
+
 #[test]
 fn the_first_fault_is_told(rt: HostRuntime) -> Result<(), Fail> {
     let alloc = rt.alloc();
