@@ -2,3 +2,5 @@ pub mod ListLemmas
 pub mod FitLemmas
 pub mod DigestLemmas
 pub mod TakenLemmas
+pub mod MapLemmas
+pub mod IndexLemmas

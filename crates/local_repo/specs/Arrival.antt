@@ -1,6 +1,6 @@
 -- A folder arrives: its index is read, and the files that the index names.
 use Rattle.std.specs.Prelude.{◌≡◌, ℕ, nat_lt, List, [], ◌∷◌, length, map, Option, Some, None, Result, Ok, Err, bytes_eq, codes, find, unwrap_or, if◌then◌else◌}
-use Rattle.std.specs.Option.{option_map}
+use Rattle.std.specs.Option.{option_map, option_or}
 use Rattle.std.specs.Ordering.{is_eq}
 use Rattle.ap_text.specs.Paths.{below_folder}
 use Rattle.ap_host.specs.Disk.{Path, Content, Files}
@@ -65,9 +65,16 @@ or_refused (Err fault) = Err (list_refusal fault)
 abbrev pub cards_of : List Entry → List Card
 cards_of entries = map (λ e. e.0) entries
 
--- the path of the first package of the index that is equal to this one
+-- the path of the first package of the index that is equal to this one, if there is one
+abbrev pub entry_for : List Entry → Card → Option Path
+entry_for entries p = option_map (λ e. e.1) (find (λ e. is_eq (package_cmp e.0 p)) entries)
+
 abbrev pub path_of : List Entry → Card → Path
-path_of entries p = unwrap_or (option_map (λ e. e.1) (find (λ e. is_eq (package_cmp e.0 p)) entries)) []
+path_of entries p = unwrap_or (entry_for entries p) []
+
+-- with one more package behind the others
+abbrev pub path_in : Option Path → Card → Path → Card → Option Path
+path_in before one path p = option_or before (if is_eq (package_cmp one p) then Some path else None)
 
 -- the four facts of the file of a complete package
 abbrev pub facts_of : Card → Digests
@@ -88,6 +95,10 @@ of_file path p (Some bytes) = compared path p (digests_of bytes)
 -- the first known package whose file has this SHA-256
 abbrev pub known_of : List Card → List ℕ → Option Card
 known_of known sha256 = find (λ q. bytes_eq q.said.sha256 sha256) known
+
+-- with one more package behind the others
+abbrev pub file_in : Option Card → Card → List ℕ → Option Card
+file_in before one sha256 = option_or before (if bytes_eq one.said.sha256 sha256 then Some one else None)
 
 -- what is known of the file serves, else it is read
 abbrev pub of_known_or_file : Path → Card → Option Card → Content → Result Card Refusal
