@@ -55,6 +55,16 @@ fn shown(alloc: Global, answer: &Result<Digests, PoolFault>) -> Result<String, A
     }
 }
 
+/// What a call answers where nothing fails, and how many operations it has left in the log.
+fn told(
+    alloc: Global,
+    answer: &Result<Digests, PoolFault>,
+    host: &MemHost,
+) -> Result<String, AllocError> {
+    let text = shown(alloc, answer)?;
+    format!(in alloc; "{}, {} done", text.as_str(), host.log().len())
+}
+
 #[test]
 fn a_file_is_taken_once(rt: HostRuntime) -> Result<(), Fail> {
     let alloc = rt.alloc();
@@ -62,20 +72,26 @@ fn a_file_is_taken_once(rt: HostRuntime) -> Result<(), Fail> {
     let mut inbox = inbox(alloc, Vec::new(alloc))?;
     let mut stage = Stage::new(alloc);
     let path = SafePath::fixed(alloc, "in/abc")?;
-    let digest = said(3).sha256;
-    assert_eq!(rt; pool_path(alloc, &digest)?.as_str(), NAME);
-    assert!(rt; !has(alloc, &mut host, &digest)?);
-    assert!(rt; get(alloc, &mut host, &digest)?.is_none());
     let taken = take(alloc, &mut host, &mut stage, &mut inbox, &path, &said(3));
-    assert_eq!(rt; shown(alloc, &taken)?.as_str(), "3 bytes");
-    assert_eq!(rt; host.log().len(), 4);
+    assert_eq!(rt; told(alloc, &taken, &host)?.as_str(), "3 bytes, 4 done");
+    let put = put(alloc, &mut host, &mut stage, b"abc", &said(3));
+    assert_eq!(rt; told(alloc, &put, &host)?.as_str(), "3 bytes, 4 done");
+    Ok(())
+}
+
+#[test]
+fn what_the_pool_has_is_given(rt: HostRuntime) -> Result<(), Fail> {
+    let alloc = rt.alloc();
+    let digest = said(3).sha256;
+    let mut files = Vec::new(alloc);
+    files.push((pool_path(alloc, &digest)?, Bytes::new(alloc, b"abc")?))?;
+    assert_eq!(rt; files[0].0.as_str(), NAME);
+    let mut host = MemHost::new(alloc, files, Vec::new(alloc), false)?;
     assert!(rt; has(alloc, &mut host, &digest)?);
+    assert!(rt; !has(alloc, &mut host, &[0; 32])?);
     assert_eq!(rt; length(alloc, &mut host, &digest)?, Some(3));
     let found = get(alloc, &mut host, &digest)?.ok_or("the file is there")?;
     assert_eq!(rt; found.as_slice(), b"abc".as_slice());
-    let put = put(alloc, &mut host, &mut stage, b"abc", &said(3));
-    assert_eq!(rt; shown(alloc, &put)?.as_str(), "3 bytes");
-    assert_eq!(rt; host.log().len(), 4);
     Ok(())
 }
 
@@ -100,6 +116,13 @@ impl Inbox for Hollow {
     }
 }
 
+fn failing(alloc: Global, ordinal: Option<u64>) -> Result<Vec<u64>, AllocError> {
+    match ordinal {
+        Some(ordinal) => only(alloc, ordinal),
+        None => Ok(Vec::new(alloc)),
+    }
+}
+
 /// What `take` answers where the calls of these ordinals fail, and how many operations it added.
 fn taken(
     alloc: Global,
@@ -108,21 +131,12 @@ fn taken(
     host_fails: Option<u64>,
     inbox_fails: Option<u64>,
 ) -> Result<String, Fail> {
-    let failing = match host_fails {
-        Some(ordinal) => only(alloc, ordinal)?,
-        None => Vec::new(alloc),
-    };
-    let mut host = host(alloc, failing)?;
-    let failing = match inbox_fails {
-        Some(ordinal) => only(alloc, ordinal)?,
-        None => Vec::new(alloc),
-    };
-    let mut inbox = inbox(alloc, failing)?;
+    let mut host = host(alloc, failing(alloc, host_fails)?)?;
+    let mut inbox = inbox(alloc, failing(alloc, inbox_fails)?)?;
     let mut stage = Stage::new(alloc);
     let path = SafePath::new(alloc, path)?;
     let answer = take(alloc, &mut host, &mut stage, &mut inbox, &path, said);
-    let text = shown(alloc, &answer)?;
-    Ok(format!(in alloc; "{}, {} done", text, host.log().len())?)
+    Ok(told(alloc, &answer, &host)?)
 }
 
 #[test]
@@ -130,42 +144,38 @@ fn each_refusal_has_its_cause(rt: HostRuntime) -> Result<(), Fail> {
     let alloc = rt.alloc();
     let mut other = said(3);
     other.sha1 = Some([0; 20]);
-    let zeros = "digest 0000000000000000000000000000000000000000, 0 done";
-    assert_eq!(rt;
-        taken(alloc, "in/abc", &said(4), None, None)?.as_str(),
-        "size 4 3, 0 done"
-    );
-    assert_eq!(rt; taken(alloc, "in/abc", &other, None, None)?.as_str(), zeros);
-    assert_eq!(rt;
-        taken(alloc, "in/ab", &said(3), None, None)?.as_str(),
-        "absent, 0 done"
-    );
-    assert_eq!(rt;
-        taken(alloc, "in/abc", &said(3), None, Some(0))?.as_str(),
-        "inbox, 0 done"
-    );
-    assert_eq!(rt;
-        taken(alloc, "in/abc", &said(3), None, Some(1))?.as_str(),
-        "inbox, 0 done"
-    );
-    assert_eq!(rt;
-        taken(alloc, "in/abc", &said(3), Some(0), None)?.as_str(),
-        "host, 0 done"
-    );
-    assert_eq!(rt;
-        taken(alloc, "in/abc", &said(3), Some(2), None)?.as_str(),
-        "host, 2 done"
-    );
-    assert_eq!(rt;
-        taken(alloc, "in/abc", &said(3), Some(4), None)?.as_str(),
-        "host, 3 done"
-    );
+    let rows = [
+        ("in/abc", said(4), None, None, "size 4 3, 0 done"),
+        (
+            "in/abc",
+            other,
+            None,
+            None,
+            "digest 0000000000000000000000000000000000000000, 0 done",
+        ),
+        ("in/ab", said(3), None, None, "absent, 0 done"),
+        ("in/abc", said(3), None, Some(0), "inbox, 0 done"),
+        ("in/abc", said(3), None, Some(1), "inbox, 0 done"),
+        ("in/abc", said(3), Some(0), None, "host, 0 done"),
+        ("in/abc", said(3), Some(2), None, "host, 2 done"),
+        ("in/abc", said(3), Some(4), None, "host, 3 done"),
+    ];
+    for (path, said, host_fails, inbox_fails, expected) in rows.iter() {
+        let answer = taken(alloc, path, said, *host_fails, *inbox_fails)?;
+        assert_eq!(rt; answer.as_str(), *expected);
+    }
+    Ok(())
+}
+
+#[test]
+fn a_read_that_gives_nothing_ends_the_file(rt: HostRuntime) -> Result<(), Fail> {
+    let alloc = rt.alloc();
     let mut hollow = Hollow { reads: 0 };
     let mut host = host(alloc, Vec::new(alloc))?;
     let mut stage = Stage::new(alloc);
     let path = SafePath::fixed(alloc, "in/abc")?;
     let answer = take(alloc, &mut host, &mut stage, &mut hollow, &path, &said(3));
-    assert_eq!(rt; shown(alloc, &answer)?.as_str(), "size 3 0");
+    assert_eq!(rt; told(alloc, &answer, &host)?.as_str(), "size 3 0, 0 done");
     assert_eq!(rt; hollow.reads, 1);
     Ok(())
 }
