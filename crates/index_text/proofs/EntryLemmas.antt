@@ -1,5 +1,5 @@
 -- Stanzas of an index one after another.
-use Rattle.std.proofs.Common.{◌≡◌, ℕ, List, [], ◌∷◌, ◌++◌, map, Option, Some, Result, Ok, Err, refl, ap, sym, ◌∙◌, subst}
+use Rattle.std.proofs.Common.{◌≡◌, ℕ, List, [], ◌∷◌, ◌++◌, map, Result, Ok, Err, refl, ap, sym, ◌∙◌, subst}
 use Rattle.std.specs.Result.{IfOk, IfErr, MatchResult}
 use Rattle.std.proofs.lemmas.List.{map-append}
 use Rattle.control_stanza.specs.declared.stanza.Field.{Field}
@@ -33,7 +33,7 @@ pub packages_last : (before : List (Card × List ℕ)) (made : Card × List ℕ)
 packages_last before made after e h p = subst ArePackages (sym e) (all_last (λ (m : Card × List ℕ). IsPackage m.0 × IsSaid m.0.said) before made h p)
 
 -- an entry among entries
-entry_at : (before : List (ℕ × List Field)) (other : ℕ × List Field) (behind : List (ℕ × List Field)) → AreEntries (before ++ other ∷ behind) → IsEntry other.1
+pub entry_at : (before : List (ℕ × List Field)) (other : ℕ × List Field) (behind : List (ℕ × List Field)) → AreEntries (before ++ other ∷ behind) → IsEntry other.1
 entry_at [] other behind h = h.0
 entry_at (s ∷ ss) other behind h = entry_at ss other behind h.1
 

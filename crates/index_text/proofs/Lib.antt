@@ -1,2 +1,3 @@
 pub mod RelationLemmas
 pub mod EntryLemmas
+pub mod FaultLemmas

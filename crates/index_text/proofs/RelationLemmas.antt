@@ -1,5 +1,5 @@
 -- Relation fields that can be read.
-use Rattle.std.proofs.Common.{◌≡◌, ℕ, Bool, true, false, List, [], ◌∷◌, codes, Option, Some, None, Result, Ok, Err, refl, sym, ◌∙◌, IsTrue, ◌↔◌}
+use Rattle.std.proofs.Common.{◌≡◌, ℕ, Bool, true, false, List, codes, Some, Result, Ok, Err, sym, ◌∙◌, IsTrue, ◌↔◌}
 use Rattle.std.specs.Result.{IfOk, IfErr}
 use Rattle.control_stanza.specs.declared.stanza.Field.{Field}
 use Rattle.control_stanza.specs.Fields.{value_of}

@@ -1,8 +1,10 @@
 -- Reading an index of binary packages (the Packages index of the Debian repository format; Debian Policy 5.1, 5.3, 7.1, 7.5).
-use Rattle.std.specs.Prelude.{◌≡◌, ◌⊎◌, ℕ, List, [], ◌∷◌, ◌++◌, map, codes, Bool, true, false, Option, Some, None, Result, Ok, Err}
+use Rattle.std.specs.Prelude.{◌≡◌, ◌⊎◌, ℕ, List, ◌∷◌, ◌++◌, map, codes, Bool, true, false, Option, Some, None, Result, Ok, Err}
 use Rattle.std.specs.List.{AllByRecursion}
 use Rattle.control_stanza.specs.declared.read.TheConstants.{MOST_STANZA_BYTES}
 use Rattle.control_stanza.specs.declared.fault.StanzaKind.{StanzaKind}
+use Rattle.control_stanza.specs.declared.fault.StanzaFault.{StanzaFault}
+use Rattle.control_stanza.specs.declared.fault.StanzaFault.TheVariants as lines
 use Rattle.control_stanza.specs.declared.stanza.Field.{Field}
 use Rattle.control_stanza.specs.Lines.{lines_of}
 use Rattle.control_stanza.specs.Fields.{value_of}
@@ -79,10 +81,21 @@ IsAt text line =
     ((kind : StanzaKind) × IsFirstFault (Some MOST_STANZA_BYTES) (lines_of text) (record { line = line; kind = kind }))
     ⊎ ((stanzas : List (ℕ × List Field)) × IsMadeOf text stanzas × IsFirstOther stanzas line)
 
--- what an error says; want of memory says nothing
+-- a fault in the lines of a text, as a fault of the index
+abbrev pub of_lines : StanzaFault → IndexFault
+of_lines (lines.At line kind) = At line
+of_lines lines.OutOfMemory = OutOfMemory
+
+-- what an error says of the text; want of memory says nothing
 abbrev pub IsFaultOf : List ℕ → IndexFault → Type 0
 IsFaultOf text (At line) = IsAt text line
 IsFaultOf text OutOfMemory = Unit {0}
+
+-- the call tells this line, unless memory runs out
+abbrev pub IsAtOf : {X : Type 0} → ℕ → Result X IndexFault → Type 0
+IsAtOf line (Ok x) = ⊥
+IsAtOf line (Err (At told)) = told ≡ line
+IsAtOf line (Err OutOfMemory) = Unit {0}
 
 -- the same of stanzas
 abbrev pub IsOtherOf : List (ℕ × List Field) → IndexFault → Type 0

@@ -1,7 +1,9 @@
 //! Why an index was not read.
 ghost use Rattle.std.specs.Prelude.{◌≡◌};
 ghost use Rattle.index_text.specs.declared.fault.IndexFault.TheVariants.{OutOfMemory};
+ghost use Rattle.index_text.specs.Index.{of_lines};
 
+use control_stanza::StanzaFault;
 use std::alloc::{AllocError, AllocFailed};
 
 /// Why an index was not read.
@@ -31,5 +33,16 @@ impl<T: Drop> From<AllocFailed<T>> for IndexFault {
 
     fn from(_: AllocFailed<T>) -> IndexFault {
         IndexFault::OutOfMemory
+    }
+}
+
+impl From<StanzaFault> for IndexFault {
+    ghost from_gives = { λ fault e. e ≡ of_lines fault };
+
+    fn from(fault: StanzaFault) -> IndexFault {
+        match fault {
+            StanzaFault::At { line, .. } => IndexFault::At { line },
+            StanzaFault::OutOfMemory => IndexFault::OutOfMemory,
+        }
     }
 }

@@ -3,12 +3,12 @@ ghost use Rattle.std.specs.Prelude.{◌≡◌, ℕ, List, IfOk, IfErr, IfSome, M
 ghost use Rattle.control_stanza.specs.declared.stanza.Field.{Field};
 ghost use Rattle.package_core.specs.Card.{Card, IsPackage, card_of, path_in};
 ghost use Rattle.package_core.specs.Whole.{IsSaid};
-ghost use Rattle.index_text.specs.Index.{IsEntry, AreEntries, entry_of, Lists, ArePackages, IsFaultOf, IsOtherOf};
+ghost use Rattle.index_text.specs.Index.{IsEntry, AreEntries, entry_of, Lists, ArePackages, IsAt, IsAtOf, IsFaultOf, IsOtherOf};
 
 use crate::fault::IndexFault;
 use crate::relations::has_relations;
 use ap_text::SafePath;
-use control_stanza::{Stanza, StanzaFault, read_stanzas};
+use control_stanza::{Stanza, read_stanzas};
 use package_core::{Package, PackageFault};
 use std::alloc::{AllocError, Global};
 
@@ -52,22 +52,18 @@ fn read_entries(
 /// Each stanza is a binary stanza, as [`Package::from_stanza`] reads it, in which Pre-Depends, Depends, Recommends,
 /// Suggests and Provides can be read where they are there (Debian Policy 7.1, 7.5). Of a text that is not made of
 /// stanzas the first line that can't stand there is told, and else the first line of the first stanza that is no such.
-pub fn read_packages(
-    alloc: Global,
-    bytes: &[u8],
-) -> Result<Vec<(Package, SafePath)>, IndexFault>
+pub fn read_packages(alloc: Global, bytes: &[u8]) -> Result<Vec<(Package, SafePath)>, IndexFault>
     // What is read is listed so.
     ensures found { IfOk result (λ v. Lists bytes.now v.items) }
     // What is listed so is read, unless memory runs out.
     ensures only { (entries : List (Card × List ℕ)) → Lists bytes.now entries → MatchResult result (λ v. v.items ≡ entries) (λ e. e ≡ IndexFault.OutOfMemory) }
-    // A fault's line is the first that shows one.
+    // The line of a fault is the first that shows one.
     ensures fault { IfErr result (IsFaultOf bytes.now) }
+    // The first line that shows a fault is told, unless memory runs out.
+    ensures told { (line : ℕ) → IsAt bytes.now line → IsAtOf line result }
     // A package whose four facts are all said is whole, so that its text reads back.
     ensures packages { IfOk result (λ v. ArePackages v.items) }
 {
-    match read_stanzas(alloc, bytes) {
-        Ok(stanzas) => read_entries(alloc, stanzas),
-        Err(StanzaFault::At { line, .. }) => Err(IndexFault::At { line }),
-        Err(StanzaFault::OutOfMemory) => Err(IndexFault::OutOfMemory),
-    }
+    let stanzas = read_stanzas(alloc, bytes)?;
+    read_entries(alloc, stanzas)
 }

@@ -59,13 +59,17 @@ fn is_hello(alloc: Global, package: &Package) -> Option<bool> {
 fn an_index_is_read(rt: HostRuntime) -> Result<(), Fail> {
     let alloc = rt.alloc();
     for text in [HELLO, HELLO.trim_end()] {
-        let found = read_packages(alloc, text.as_bytes()).ok().ok_or("an index")?;
+        let found = read_packages(alloc, text.as_bytes())
+            .ok()
+            .ok_or("an index")?;
         assert_eq!(rt; found.len(), 1);
         assert_eq!(rt; is_hello(alloc, &found[0].0), Some(true));
         assert_eq!(rt; found[0].1.as_str(), "hello_2.10-2_amd64.deb");
     }
     for text in ["", "\n \n\t\n"] {
-        let found = read_packages(alloc, text.as_bytes()).ok().ok_or("an index")?;
+        let found = read_packages(alloc, text.as_bytes())
+            .ok()
+            .ok_or("an index")?;
         assert!(rt; found.is_empty());
     }
     let other = altered(alloc, "./hello", "././pool/h/other").ok_or("a text")?;

@@ -1,6 +1,6 @@
-use Rattle.std.proofs.Common.{◌≡◌, Bool, true, false, IsTrue, ◌↔◌, sym, ◌∙◌, subst}
+use Rattle.std.proofs.Common.{◌≡◌, Bool, false, IsTrue, ◌↔◌, sym, ◌∙◌, subst}
 use Rattle.std.proofs.lemmas.Result.{IfOk-weaker}
-use Rattle.depends_field.specs.declared.phase.Kind.TheVariants.{Depends, Provides}
+use Rattle.depends_field.specs.declared.phase.Kind.TheVariants.{Depends}
 use Rattle.index_text.specs.Index.{IsReadable}
 use Rattle.index_text.proofs.RelationLemmas.{all_five}
 use Rattle.index_text.proofs.relations.has_relations.Goals as goal

@@ -1,8 +1,5 @@
-use Rattle.std.proofs.Common.{◌≡◌, ◌∷◌, [], map, IsTrue, ◌↔◌, Some, sym, ap, subst}
 use Rattle.std.proofs.lemmas.Result.{IfOk-weaker}
-use Rattle.std.specs.Option.{option_copied}
 use Rattle.depends_field.specs.declared.phase.Kind.TheVariants.{Depends}
-use Rattle.index_text.specs.Index.{IsReadable}
 use Rattle.index_text.proofs.RelationLemmas.{known_is}
 use Rattle.index_text.proofs.relations.is_depends.Goals as goal
 

@@ -1,9 +1,7 @@
-use Rattle.std.proofs.Common.{◌≡◌, ◌∷◌, [], map, IsTrue, ◌↔◌, Some, sym, ap, subst}
+use Rattle.std.proofs.Common.{◌∷◌, [], map}
 use Rattle.std.proofs.lemmas.Result.{IfOk-weaker}
-use Rattle.std.specs.Option.{option_copied}
 use Rattle.depends_field.specs.declared.alternative.Alternative.{Alternative}
 use Rattle.depends_field.specs.declared.phase.Kind.TheVariants.{Provides}
-use Rattle.index_text.specs.Index.{IsReadable}
 use Rattle.index_text.proofs.RelationLemmas.{known_is}
 use Rattle.index_text.proofs.relations.is_provides.Goals as goal
 
