@@ -1,5 +1,5 @@
 -- Packages joined one after the other, where no two of those before have one triple.
-use Rattle.std.proofs.Common.{◌≡◌, ℕ, List, [], ◌∷◌, ◌++◌, length, nat_lt, append-nil, Bool, true, false, cond, not, ◌&&◌, ◌||◌, Option, Some, None, Result, Ok, Err, refl, sym, ap, ◌∙◌, subst, Ordering, Less, Equal, Greater}
+use Rattle.std.proofs.Common.{◌≡◌, ℕ, List, [], ◌∷◌, ◌++◌, length, nat_lt, Bool, true, false, cond, not, ◌&&◌, ◌||◌, Option, Some, None, Result, Ok, Err, refl, sym, ap, ◌∙◌, subst, Ordering, Less, Equal, Greater}
 use Rattle.std.specs.Ordering.{is_eq, ordering_then, ordering_reverse, match_ordering}
 use Rattle.std.specs.List.{list_any, find, AllByRecursion}
 use Rattle.std.specs.List.Sorted.{IsStrictlySortedBy}
@@ -116,11 +116,6 @@ pub stops_at : (before rest ps : List Package) (p : Package) (e : ListFault) →
 stops_at before rest ps p OutOfMemory h g = tt
 stops_at before rest ps p (Conflict t) h g = stops before rest ps p (Conflict t) h g
 stops_at before rest ps p Full h g = stops before rest ps p Full h g
-
-pub all_join : (yielded rest ps keys : List Package) → keys ≡ joined yielded → yielded ++ rest ≡ ps → first_refusal yielded rest ≡ first_refusal [] ps → rest ≡ [] → join_answer ps ≡ Ok keys
-all_join yielded rest ps keys k a f e =
-    let whole : ps ≡ yielded = sym a ∙ ap (λ l. yielded ++ l) e ∙ append-nil yielded in
-    (λ i. err_or ((sym f ∙ ap (first_refusal yielded) e) i) (joined ps)) ∙ ap (λ l. Ok (joined l)) whole ∙ ap Ok (sym k)
 
 ok_is : (r : Option ListFault) (x keys : List Package) → err_or r x ≡ Ok keys → x ≡ keys
 ok_is None x keys h = cc

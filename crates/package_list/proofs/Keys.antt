@@ -1,5 +1,5 @@
 -- Members of one name and architecture stand side by side.
-use Rattle.std.proofs.Common.{◌≡◌, List, [], ◌∷◌, ◌++◌, Bool, true, false, cond, not, ◌&&◌, ◌||◌, append_assoc, append-nil, refl, sym, ap, ◌∙◌, subst, Ordering, Less, Equal, Greater, inl, inr}
+use Rattle.std.proofs.Common.{◌≡◌, List, [], ◌∷◌, ◌++◌, Bool, true, false, cond, not, ◌&&◌, ◌||◌, append_assoc, refl, sym, ap, ◌∙◌, subst, Ordering, Less, Equal, Greater, inl, inr}
 use Rattle.std.specs.Ordering.{is_eq, is_lt, ordering_then, ordering_reverse}
 use Rattle.std.specs.List.{filter, list_any}
 use Rattle.std.specs.Cmp.{IsTotalOrder}
@@ -142,9 +142,6 @@ kept_greater kept left right xs ys x y left' right' e f h j =
 pub kept_none : (xs ys : List Package) → IsAscending package_cmp xs → IsAscending package_cmp ys → Kept [] xs ys xs ys
 kept_none xs ys a b = record { same = refl; first = a; second = b }
 
-pub kept_ends : (kept left right xs ys : List Package) → left ≡ [] → Kept kept left right xs ys → kept ≡ unkeyed ys xs
-kept_ends kept left right xs ys e j = sym (append-nil kept) ∙ ap (λ l. kept ++ unkeyed right l) (sym e) ∙ j.same
-
 unkeyed_all : (xs : List Package) → unkeyed [] xs ≡ xs
 unkeyed_all [] = refl
 unkeyed_all (x ∷ xs) = ap (λ l. x ∷ l) (unkeyed_all xs)
@@ -187,9 +184,3 @@ greatest_keeps kept kept' left left' xs x e h g j =
       same = ap (λ l. l ++ greatest left') g ∙ append_assoc kept (x ∷ []) (greatest left') ∙ ap (λ l. kept ++ l) (sym (ap greatest e ∙ greatest_step x left' false up h)) ∙ j.same;
       ascending = up.1;
     }
-
-pub greatest_begins : (xs : List Package) → IsAscending package_cmp xs → Greatest [] xs xs
-greatest_begins xs a = record { same = refl; ascending = a }
-
-pub greatest_ends : (kept left xs : List Package) → left ≡ [] → Greatest kept left xs → kept ≡ greatest xs
-greatest_ends kept left xs e j = sym (append-nil kept) ∙ ap (λ l. kept ++ greatest l) (sym e) ∙ j.same

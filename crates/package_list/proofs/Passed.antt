@@ -1,5 +1,5 @@
 -- One pass over two lists, while no member of the second clashes in the union.
-use Rattle.std.proofs.Common.{◌≡◌, ℕ, List, [], ◌∷◌, ◌++◌, length, arith, take, drop, append_assoc, Bool, true, false, cond, not, ◌&&◌, ◌||◌, Some, None, Result, Ok, Err, refl, sym, ap, ◌∙◌, subst, Less, Equal, Greater}
+use Rattle.std.proofs.Common.{◌≡◌, ℕ, List, [], ◌∷◌, ◌++◌, length, arith, take, drop, append_assoc, Bool, true, false, cond, not, ◌&&◌, ◌||◌, Some, Result, Ok, Err, refl, sym, ap, ◌∙◌, subst, Less, Equal, Greater}
 use Rattle.std.specs.Ordering.{is_eq}
 use Rattle.std.specs.List.{list_any}
 use Rattle.std.proofs.lemmas.Cmp.{tied_itself}
@@ -13,7 +13,7 @@ use Rattle.package_list.specs.declared.fault.ListFault.TheVariants.{Conflict, Fu
 use Rattle.package_list.specs.Sorted.{IsBelow, IsAscending, AllLess, IsBetween, put, last_is, first_is}
 use Rattle.package_list.specs.Lists.{union, clash, clashes}
 use Rattle.package_list.specs.Answers.{Answers, FaultIs, first_clash, conflict_or}
-use Rattle.package_list.proofs.SortedLemmas.{BeforeFirst, Joined, joined_none, joined_less, joined_equal, joined_greater, joined_ends, put_ascending, put_behind, put_before, turned, below_more}
+use Rattle.package_list.proofs.SortedLemmas.{BeforeFirst, Joined, joined_less, joined_equal, joined_greater, joined_ends, put_ascending, put_behind, put_before, turned, below_more}
 use Rattle.package_list.proofs.Beside.{clash_beside, behind_equal}
 use Rattle.package_list.proofs.Gathers.{or_false, or_assoc, any_union, clash_alike}
 
@@ -61,9 +61,6 @@ pub record Apart (all left right xs ys : List Package) : Type 0 where
   pub ascending : IsAscending package_cmp (all ++ left)
   pub apart : first_clash (union xs ys) right ≡ first_clash (union xs ys) ys
 
-pub apart_none : (xs ys : List Package) → IsAscending package_cmp xs → IsAscending package_cmp ys → Apart [] xs ys xs ys
-apart_none xs ys a b = record { joined = joined_none package_total xs ys b; ascending = a; apart = refl }
-
 front : (xs ys : List Package) → IsAscending package_cmp (xs ++ ys) → IsAscending package_cmp xs
 front [] ys a = tt
 front (x ∷ xs) ys a = (below_front xs a.0, front xs ys a.1)
@@ -86,9 +83,6 @@ module _ (all left right xs ys : List Package) (y : Package) (right' : List Pack
   -- the next of the second list stands between what is joined and what is left
   pub next_between : (left' : List Package) → IsAscending package_cmp left' → IsBelow package_cmp y left' → IsBetween package_cmp all left' right' y
   next_between left' a b = record { before_up = front all left j.ascending; left_up = a; right_up = up.1; before_less = before; left_above = b; right_above = up.0 }
-
-  pub between_none : left ≡ [] → IsBetween package_cmp all left right' y
-  between_none e = next_between left (back all left j.ascending) (subst (IsBelow package_cmp y) (sym e) tt)
 
   pub between_equal : (x : Package) (left' : List Package) → left ≡ x ∷ left' → package_cmp x y ≡ Equal → IsBetween package_cmp all left' right' y
   between_equal x left' e h =
@@ -160,6 +154,3 @@ module _ (all left right xs ys : List Package) (y : Package) (right' : List Pack
     ascending = subst (IsAscending package_cmp) (sym (ap (λ l. l ++ left') g ∙ append_assoc all (x ∷ []) left' ∙ ap (λ l. all ++ l) (sym e))) j.ascending;
     apart = j.apart;
   }
-
-pub apart_all : (all left right xs ys items : List Package) → right ≡ [] → items ≡ all ++ left → Apart all left right xs ys → (first_clash (union xs ys) ys ≡ None) × (items ≡ union xs ys)
-apart_all all left right xs ys items e g j = (sym j.apart ∙ ap (first_clash (union xs ys)) e, g ∙ ap (union (all ++ left)) (sym e) ∙ j.joined.same)

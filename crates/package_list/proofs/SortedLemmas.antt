@@ -4,7 +4,6 @@ use Rattle.std.specs.Ordering.{is_eq, is_lt, ordering_reverse}
 use Rattle.std.specs.List.{insert}
 use Rattle.std.specs.Result.{OnOk, OnErr}
 use Rattle.std.specs.Cmp.{IsTotalOrder}
-use Rattle.std.proofs.lemmas.Cmp.{alike_right}
 use Rattle.std.proofs.lemmas.List.{take-append-drop, get_or_default, map-append, take-map, drop-map, length-map, get_or-map, drop_more}
 use Rattle.std.proofs.lemmas.Bool.{cases_lt, false≢true, true≢false}
 use Rattle.package_list.specs.Sorted.{IsBelow, IsAscending, placed, put, union, AllLess, StartsAt, has}
@@ -54,9 +53,6 @@ module _ {X : Type 0} {R : X → X → Ordering} (o : IsTotalOrder R) where
   pub union_ascending : (xs ys : List X) → IsAscending R xs → IsAscending R (union R xs ys)
   union_ascending xs [] a = a
   union_ascending xs (y ∷ ys) a = union_ascending (put R xs y) ys (put_ascending xs y a)
-
-  less_along : (x y z : X) → R x y ≡ Less → R y z ≡ Equal → R x z ≡ Less
-  less_along x y z h e = sym (alike_right o y z x e) ∙ h
 
   pub all_less_along : (xs : List X) (y z : X) → AllLess R xs y → R y z ≡ Less → AllLess R xs z
   all_less_along [] y z h e = tt
