@@ -4,3 +4,4 @@ pub mod DigestLemmas
 pub mod TakenLemmas
 pub mod MapLemmas
 pub mod IndexLemmas
+pub mod LogLemmas

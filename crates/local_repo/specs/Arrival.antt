@@ -52,15 +52,15 @@ abbrev pub or_malformed : {X : Type 0} → Path → Result X ℕ → Result X Re
 or_malformed path (Ok x) = Ok x
 or_malformed path (Err line) = Err (InputMalformed path line)
 
--- a list that is joined refuses so
-abbrev pub list_refusal : ListFault → Refusal
-list_refusal (list_faults.Conflict triple) = Conflict triple
-list_refusal list_faults.Full = Limit Packages
-list_refusal list_faults.OutOfMemory = Limit Packages
+-- a list that would pass this limit refuses so (memory isn't wanted here)
+abbrev pub list_refusal : LimitKind → ListFault → Refusal
+list_refusal limit (list_faults.Conflict triple) = Conflict triple
+list_refusal limit list_faults.Full = Limit limit
+list_refusal limit list_faults.OutOfMemory = Limit limit
 
-abbrev pub or_refused : {X : Type 0} → Result X ListFault → Result X Refusal
-or_refused (Ok x) = Ok x
-or_refused (Err fault) = Err (list_refusal fault)
+abbrev pub or_refused : {X : Type 0} → LimitKind → Result X ListFault → Result X Refusal
+or_refused limit (Ok x) = Ok x
+or_refused limit (Err fault) = Err (list_refusal limit fault)
 
 abbrev pub cards_of : List Entry → List Card
 cards_of entries = map (λ e. e.0) entries
@@ -121,21 +121,24 @@ each_taken take [] = Ok []
 each_taken take (p ∷ ps) = and_then (take p) (λ q. and_then (each_taken take ps) (λ qs. Ok (q ∷ qs)))
 
 -- the known packages aren't too many, and their texts not too long
+abbrev pub known_answer : List Card → Result (List Card) Refusal
+known_answer known = if nat_lt (limit_number Known) (length known) then Err (Limit Known) else Ok known
+
 abbrev pub within_catalogue : List Card → Result (Unit {0}) Refusal
 within_catalogue known =
-    if nat_lt (limit_number Known) (length known) then Err (Limit Known)
-    else if nat_lt (limit_number Catalogue) (text_length known) then Err (Limit Catalogue)
-    else Ok tt
+    and_then (known_answer known) (λ all. if nat_lt (limit_number Catalogue) (text_length all) then Err (Limit Catalogue) else Ok tt)
 
 -- the list can be added to the repository's own and to what is known
-unfoldable pub fitting : List Card → List Card → List Card → Result (List Card) Refusal
-fitting known own list =
-    and_then (or_refused (append_answer own list)) (λ _. and_then (within_catalogue (union known list)) (λ _. Ok list))
+unfoldable pub check_answer : List Card → List Card → List Card → Result (Unit {0}) Refusal
+check_answer known own list = and_then (or_refused Packages (append_answer own list)) (λ _. within_catalogue (union known list))
+
+abbrev pub fitting : List Card → List Card → List Card → Result (List Card) Refusal
+fitting known own list = and_then (check_answer known own list) (λ _. Ok list)
 
 -- the packages of a readable index
 unfoldable pub entries_arrive : Files → List Card → List Card → Path → List Entry → Result (List Card) Refusal
 entries_arrive files known own folder entries =
-    and_then (or_refused (join_answer (cards_of entries))) (λ joined.
+    and_then (or_refused Packages (join_answer (cards_of entries))) (λ joined.
     and_then (each_taken (λ p. taken files known (below_folder folder (path_of entries p)) p) joined) (λ list. fitting known own list))
 
 abbrev pub list_in : Option Repo → List Card

@@ -1,12 +1,13 @@
 //! Whether a list can be added.
 ghost use Rattle.std.specs.Prelude.{◌≡◌, IfOk, IfErr, map, nat_lt};
+ghost use Rattle.std.specs.Option.{option_copied};
 ghost use Rattle.std.specs.Rc.{rc_value};
 ghost use Rattle.package_list.specs.Lists.{union};
 ghost use Rattle.package_list.specs.Answers.{append_answer};
-ghost use Rattle.machine_state.specs.declared.limit.Limit.TheVariants.{Catalogue};
+ghost use Rattle.machine_state.specs.declared.limit.Limit.TheVariants.{Catalogue, Packages, Known};
 ghost use Rattle.machine_state.specs.Limits.{limit_number};
 ghost use Rattle.machine_state.specs.State.{text_length};
-ghost use Rattle.local_repo.specs.Arrival.{list_in, or_refused, within_catalogue};
+ghost use Rattle.local_repo.specs.Arrival.{check_answer, known_answer, list_in, or_refused, within_catalogue};
 ghost use Rattle.local_repo.specs.Answers.{Gives, IsOwnFault};
 
 use crate::fault::{of_list, over};
@@ -32,30 +33,54 @@ fn is_too_long(alloc: Global, packages: &[Rc<Package>]) -> Result<bool, AllocErr
     Ok(false)
 }
 
+/// The list of a repository, or the empty one.
+fn own_list(alloc: Global, repo: Option<&Repo>) -> Result<PackageList, AllocError>
+    ensures { IfOk result (λ list. list ≡ list_in (option_copied repo.entry)) }
+{
+    match repo {
+        Some(repo) => repo.list.copy(alloc),
+        None => Ok(PackageList::new(alloc)),
+    }
+}
+
 /// Whether the list can be appended to a repository's list.
 fn check_repository(
     alloc: Global,
     repo: Option<&Repo>,
     list: &PackageList,
 ) -> Result<(), UpdateFault>
+    ensures answer { Gives result (or_refused Packages (append_answer (list_in (option_copied repo.entry)) list.now)) }
+    ensures fault { IfErr result IsOwnFault }
 {
-    let mut all = match repo {
-        Some(repo) => repo.list.copy(alloc)?,
-        None => PackageList::new(alloc),
-    };
+    let mut all = own_list(alloc, repo)?;
     match all.append_from(alloc, list) {
         Ok(()) => Ok(()),
         Err(fault) => Err(of_list(Limit::Packages, fault)),
     }
 }
 
-/// Whether the list can be known besides what is known.
-fn check_known(alloc: Global, known: &PackageList, list: &PackageList) -> Result<(), UpdateFault>
+/// What is known with the list.
+fn known_with(
+    alloc: Global,
+    known: &PackageList,
+    list: &PackageList,
+) -> Result<PackageList, UpdateFault>
+    ensures answer { Gives result (known_answer (union known.now list.now)) }
+    ensures fault { IfErr result IsOwnFault }
 {
     let mut all = known.copy(alloc)?;
-    if let Err(fault) = all.join_known(alloc, list) {
-        return Err(of_list(Limit::Known, fault));
+    match all.join_known(alloc, list) {
+        Ok(()) => Ok(all),
+        Err(fault) => Err(of_list(Limit::Known, fault)),
     }
+}
+
+/// Whether the list can be known besides what is known.
+fn check_known(alloc: Global, known: &PackageList, list: &PackageList) -> Result<(), UpdateFault>
+    ensures answer { Gives result (within_catalogue (union known.now list.now)) }
+    ensures fault { IfErr result IsOwnFault }
+{
+    let all = known_with(alloc, known, list)?;
     if is_too_long(alloc, all.as_slice())? {
         return Err(over(Limit::Catalogue));
     }
@@ -69,6 +94,8 @@ pub(crate) fn check(
     repo: Option<&Repo>,
     list: &PackageList,
 ) -> Result<(), UpdateFault>
+    ensures answer { Gives result (check_answer known.now (list_in (option_copied repo.entry)) list.now) }
+    ensures fault { IfErr result IsOwnFault }
 {
     check_repository(alloc, repo, list)?;
     check_known(alloc, known, list)

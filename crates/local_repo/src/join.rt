@@ -2,6 +2,7 @@
 ghost use Rattle.std.specs.Prelude.{◌≡◌, IfOk, OnOk, map};
 ghost use Rattle.std.specs.BTreeMap.{get};
 ghost use Rattle.std.specs.Rc.{rc_value};
+ghost use Rattle.machine_state.specs.declared.limit.Limit.TheVariants.{Packages};
 ghost use Rattle.package_core.specs.Card.{Card};
 ghost use Rattle.package_core.specs.Order.{package_cmp};
 ghost use Rattle.package_list.specs.Answers.{join_answer};
@@ -52,7 +53,7 @@ pub(crate) fn split(
 
 /// The packages of an index, joined in its order.
 pub(crate) fn join(alloc: Global, packages: &[Rc<Package>]) -> Result<PackageList, UpdateFault>
-    ensures answer { Gives result (or_refused (join_answer (map rc_value packages.now))) }
+    ensures answer { Gives result (or_refused Packages (join_answer (map rc_value packages.now))) }
 {
     match PackageList::from_shared(alloc, packages) {
         Ok(list) => Ok(list),
