@@ -5,3 +5,4 @@ pub mod TakenLemmas
 pub mod MapLemmas
 pub mod IndexLemmas
 pub mod LogLemmas
+pub mod TextLemmas

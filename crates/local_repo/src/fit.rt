@@ -88,6 +88,7 @@ fn check_known(alloc: Global, known: &PackageList, list: &PackageList) -> Result
 }
 
 /// Whether the list can be added to a repository's and to what is known.
+#[tactic(auto, unfolding(crate::specs::Arrival::check_answer))]
 pub(crate) fn check(
     alloc: Global,
     known: &PackageList,
