@@ -1,6 +1,6 @@
 -- A folder arrives: its index is read, and the files that the index names.
 use Rattle.std.specs.Prelude.{◌≡◌, ℕ, nat_lt, List, [], ◌∷◌, length, map, Option, Some, None, Result, Ok, Err, bytes_eq, codes, find, unwrap_or, if◌then◌else◌}
-use Rattle.std.specs.Option.{option_map}
+use Rattle.std.specs.Option.{option_map, option_or}
 use Rattle.std.specs.Ordering.{is_eq}
 use Rattle.ap_text.specs.Paths.{below_folder}
 use Rattle.ap_host.specs.Disk.{Path, Content, Files}
@@ -14,7 +14,7 @@ use Rattle.package_list.specs.declared.fault.ListFault.{ListFault}
 use Rattle.package_list.specs.declared.fault.ListFault.TheVariants as list_faults
 use Rattle.package_list.specs.Sorted.{equal_of}
 use Rattle.package_list.specs.Lists.{union}
-use Rattle.package_list.specs.Answers.{append_answer}
+use Rattle.package_list.specs.Answers.{append_answer, join_answer}
 use Rattle.machine_state.specs.declared.limit.Limit.{Limit as LimitKind}
 use Rattle.machine_state.specs.declared.limit.Limit.TheVariants.{Packages, Known, Catalogue, Index, File}
 use Rattle.machine_state.specs.declared.refusal.Refusal.{Refusal}
@@ -23,12 +23,16 @@ use Rattle.machine_state.specs.declared.repo.Repo.{Repo}
 use Rattle.machine_state.specs.Limits.{limit_number}
 use Rattle.machine_state.specs.State.{text_length, repo_of}
 use Rattle.machine_state.specs.Values.{StateView}
-use Rattle.local_repo.specs.Index.{Entry, packages_of, join_answer}
+use Rattle.index_text.specs.Index.{Lists, IsAt}
+
+-- a package that an index describes, and the path of its file below the folder of the index
+abbrev pub Entry : Type 0
+Entry = Card × List ℕ
 
 -- the next step is made where this one went well
-abbrev pub then : {X Y : Type 0} → Result X Refusal → (X → Result Y Refusal) → Result Y Refusal
-then (Ok x) next = next x
-then (Err refusal) next = Err refusal
+abbrev pub and_then : {X Y : Type 0} → Result X Refusal → (X → Result Y Refusal) → Result Y Refusal
+and_then (Ok x) next = next x
+and_then (Err refusal) next = Err refusal
 
 -- the index of a folder
 abbrev pub index_path : Path → Path
@@ -39,30 +43,38 @@ abbrev pub index_bytes : Path → Content → Result (List ℕ) Refusal
 index_bytes path None = Err (InputAbsent path)
 index_bytes path (Some bytes) = if nat_lt (limit_number Index) (length bytes) then Err (Limit Index) else Ok bytes
 
+-- what an index says: its packages with the paths of their files, or the first line that can't stand there
+abbrev pub IsIndex : List ℕ → Result (List Entry) ℕ → Type 0
+IsIndex text (Ok entries) = Lists text entries
+IsIndex text (Err line) = IsAt text line
+
 abbrev pub or_malformed : {X : Type 0} → Path → Result X ℕ → Result X Refusal
 or_malformed path (Ok x) = Ok x
 or_malformed path (Err line) = Err (InputMalformed path line)
 
--- it is readable
-abbrev pub index_entries : Path → List ℕ → Result (List Entry) Refusal
-index_entries path bytes = or_malformed path (packages_of bytes)
+-- a list that would pass this limit refuses so (memory isn't wanted here)
+abbrev pub list_refusal : LimitKind → ListFault → Refusal
+list_refusal limit (list_faults.Conflict triple) = Conflict triple
+list_refusal limit list_faults.Full = Limit limit
+list_refusal limit list_faults.OutOfMemory = Limit limit
 
--- a list that is joined refuses so
-abbrev pub list_refusal : ListFault → Refusal
-list_refusal (list_faults.Conflict triple) = Conflict triple
-list_refusal list_faults.Full = Limit Packages
-list_refusal list_faults.OutOfMemory = Limit Packages
-
-abbrev pub or_refused : {X : Type 0} → Result X ListFault → Result X Refusal
-or_refused (Ok x) = Ok x
-or_refused (Err fault) = Err (list_refusal fault)
+abbrev pub or_refused : {X : Type 0} → LimitKind → Result X ListFault → Result X Refusal
+or_refused limit (Ok x) = Ok x
+or_refused limit (Err fault) = Err (list_refusal limit fault)
 
 abbrev pub cards_of : List Entry → List Card
 cards_of entries = map (λ e. e.0) entries
 
--- the path of the first package of the index that is equal to this one
+-- the path of the first package of the index that is equal to this one, if there is one
+abbrev pub entry_for : List Entry → Card → Option Path
+entry_for entries p = option_map (λ e. e.1) (find (λ e. is_eq (package_cmp e.0 p)) entries)
+
 abbrev pub path_of : List Entry → Card → Path
-path_of entries p = unwrap_or (option_map (λ e. e.1) (find (λ e. is_eq (package_cmp e.0 p)) entries)) []
+path_of entries p = unwrap_or (entry_for entries p) []
+
+-- with one more package behind the others
+abbrev pub path_in : Option Path → Card → Path → Card → Option Path
+path_in before one path p = option_or before (if is_eq (package_cmp one p) then Some path else None)
 
 -- the four facts of the file of a complete package
 abbrev pub facts_of : Card → Digests
@@ -84,6 +96,10 @@ of_file path p (Some bytes) = compared path p (digests_of bytes)
 abbrev pub known_of : List Card → List ℕ → Option Card
 known_of known sha256 = find (λ q. bytes_eq q.said.sha256 sha256) known
 
+-- with one more package behind the others
+abbrev pub file_in : Option Card → Card → List ℕ → Option Card
+file_in before one sha256 = option_or before (if bytes_eq one.said.sha256 sha256 then Some one else None)
+
 -- what is known of the file serves, else it is read
 abbrev pub of_known_or_file : Path → Card → Option Card → Content → Result Card Refusal
 of_known_or_file path p (Some q) content = compared path p (facts_of q)
@@ -97,30 +113,33 @@ standing known p = unwrap_or (equal_of package_cmp known p) p
 unfoldable pub taken : Files → List Card → Path → Card → Result Card Refusal
 taken files known path p =
     if nat_lt (limit_number File) p.said.size then Err (Limit File)
-    else then (of_known_or_file path p (known_of known p.said.sha256) (files path)) (λ made. Ok (standing known made))
+    else and_then (of_known_or_file path p (known_of known p.said.sha256) (files path)) (λ made. Ok (standing known made))
 
 -- the packages in turn; the first that is refused decides
 abbrev pub each_taken : (Card → Result Card Refusal) → List Card → Result (List Card) Refusal
 each_taken take [] = Ok []
-each_taken take (p ∷ ps) = then (take p) (λ q. then (each_taken take ps) (λ qs. Ok (q ∷ qs)))
+each_taken take (p ∷ ps) = and_then (take p) (λ q. and_then (each_taken take ps) (λ qs. Ok (q ∷ qs)))
 
 -- the known packages aren't too many, and their texts not too long
+abbrev pub known_answer : List Card → Result (List Card) Refusal
+known_answer known = if nat_lt (limit_number Known) (length known) then Err (Limit Known) else Ok known
+
 abbrev pub within_catalogue : List Card → Result (Unit {0}) Refusal
 within_catalogue known =
-    if nat_lt (limit_number Known) (length known) then Err (Limit Known)
-    else if nat_lt (limit_number Catalogue) (text_length known) then Err (Limit Catalogue)
-    else Ok tt
+    and_then (known_answer known) (λ all. if nat_lt (limit_number Catalogue) (text_length all) then Err (Limit Catalogue) else Ok tt)
 
 -- the list can be added to the repository's own and to what is known
-unfoldable pub fitting : List Card → List Card → List Card → Result (List Card) Refusal
-fitting known own list =
-    then (or_refused (append_answer own list)) (λ _. then (within_catalogue (union known list)) (λ _. Ok list))
+unfoldable pub check_answer : List Card → List Card → List Card → Result (Unit {0}) Refusal
+check_answer known own list = and_then (or_refused Packages (append_answer own list)) (λ _. within_catalogue (union known list))
+
+abbrev pub fitting : List Card → List Card → List Card → Result (List Card) Refusal
+fitting known own list = and_then (check_answer known own list) (λ _. Ok list)
 
 -- the packages of a readable index
 unfoldable pub entries_arrive : Files → List Card → List Card → Path → List Entry → Result (List Card) Refusal
 entries_arrive files known own folder entries =
-    then (or_refused (join_answer (cards_of entries))) (λ joined.
-    then (each_taken (λ p. taken files known (below_folder folder (path_of entries p)) p) joined) (λ list. fitting known own list))
+    and_then (or_refused Packages (join_answer (cards_of entries))) (λ joined.
+    and_then (each_taken (λ p. taken files known (below_folder folder (path_of entries p)) p) joined) (λ list. fitting known own list))
 
 abbrev pub list_in : Option Repo → List Card
 list_in None = []
@@ -130,10 +149,19 @@ list_in (Some repo) = repo.list
 abbrev pub list_of : StateView → List ℕ → List Card
 list_of state name = list_in (repo_of name state.repos)
 
+-- what comes of an index that says this
+abbrev pub index_arrives : Files → StateView → List ℕ → Path → Result (List Entry) ℕ → Result (List Card) Refusal
+index_arrives files state name folder index =
+    and_then (or_malformed (index_path folder) index) (λ entries. entries_arrive files state.known (list_of state name) folder entries)
+
+-- what comes of the bytes of an index, where it is there
+abbrev pub BytesArrive : Files → StateView → List ℕ → Path → Result (List ℕ) Refusal → Result (List Card) Refusal → Type 0
+BytesArrive files state name folder (Ok bytes) arrived =
+    (index : Result (List Entry) ℕ) × IsIndex bytes index × (arrived ≡ index_arrives files state name folder index)
+BytesArrive files state name folder (Err refusal) arrived = arrived ≡ Err refusal
+
 -- What arrives of a folder of these files: the packages of its index, each complete, or why they are refused. The steps are made in
 -- order, and the first that fails decides.
-unfoldable pub arrival : Files → StateView → List ℕ → Path → Result (List Card) Refusal
-arrival files state name folder =
-    then (index_bytes (index_path folder) (files (index_path folder))) (λ bytes.
-    then (index_entries (index_path folder) bytes) (λ entries.
-    entries_arrive files state.known (list_of state name) folder entries))
+unfoldable pub Arrives : Files → StateView → List ℕ → Path → Result (List Card) Refusal → Type 0
+Arrives files state name folder arrived =
+    BytesArrive files state name folder (index_bytes (index_path folder) (files (index_path folder))) arrived

@@ -9,7 +9,7 @@ ghost use Rattle.package_list.specs.Answers.{Answers, insert_answer, append_answ
 
 use crate::apart::apart_union_of;
 use crate::fault::ListFault;
-use crate::gather::{gathered, items_of};
+use crate::gather::{gathered, items_of, shared};
 use crate::join::{copy_items, union_of};
 use crate::place::{clashes_at, equal_in, found_at, is_at, place_of};
 use crate::reduce::{latest_of, merge_of};
@@ -77,10 +77,29 @@ impl PackageList {
     pub fn from_packages(alloc: Global, packages: Vec<Package>) -> Result<PackageList, ListFault>
         ensures { Answers result (join_answer packages.items) }
     {
+        let packages = shared(alloc, packages)?;
+        PackageList::from_shared(alloc, &packages)
+    }
+
+    /// The same of packages that are shared already, and go on being so.
+    pub fn from_shared(
+        alloc: Global,
+        packages: &[Rc<Package>],
+    ) -> Result<PackageList, ListFault>
+        ensures { Answers result (join_answer (map rc_value packages.now)) }
+    {
         let members = gathered(alloc, packages)?;
         Ok(PackageList {
             items: items_of(alloc, members)?,
         })
+    }
+
+    /// The list of these packages, which stand in their order, no two of them equal. They are shared.
+    pub fn from_ascending(packages: Vec<Rc<Package>>) -> PackageList
+        requires { IsAscending package_cmp (map rc_value packages.items) }
+        ensures { result ≡ map rc_value packages.items }
+    {
+        PackageList { items: packages }
     }
 
     /// The number of members.
