@@ -1,9 +1,10 @@
 -- Sorted lists: what holds of each member, and of which members.
-use Rattle.std.proofs.Common.{◌≡◌, ℕ, zero, suc, ◌<◌, Bool, true, false, cond, ◌||◌, List, [], ◌∷◌, length, get_or, Option, Some, None, refl, sym, ap, ◌∙◌, subst, arith, Ordering, Less, Equal, Greater}
+use Rattle.std.proofs.Common.{◌≡◌, ℕ, zero, suc, ◌+◌, ◌<◌, Bool, true, false, cond, ◌||◌, List, [], ◌∷◌, ◌++◌, map, take, drop, add-one, length, get_or, Option, Some, None, refl, sym, ap, ◌∙◌, subst, arith, Ordering, Less, Equal, Greater}
 use Rattle.std.specs.Ordering.{is_eq, ordering_reverse}
 use Rattle.std.specs.List.{All, AllByRecursion}
 use Rattle.std.specs.Cmp.{IsTotalOrder}
 use Rattle.std.proofs.lemmas.Cmp.{tied_itself, alike_right}
+use Rattle.package_list.proofs.SortedLemmas.{drop_at_member}
 use Rattle.package_list.specs.Sorted.{IsBelow, IsAscending, placed, put, union, equal_of, has}
 
 -- ---- by places and by recursion
@@ -110,3 +111,16 @@ module _ {X : Type 0} {R : X → X → Ordering} (o : IsTotalOrder R) where
   ascending_alike [] (y ∷ ys) e a = absurd e
   ascending_alike (x ∷ xs) [] e a = absurd e
   ascending_alike (x ∷ xs) (y ∷ ys) e a = (below_alike x y xs ys e.0 e.1 a.0, ascending_alike xs ys e.1 a.1)
+
+-- ---- one more of the first
+taken_on : {X : Type 0} (xs : List X) (i : ℕ) (x : X) (rest : List X) → drop i xs ≡ x ∷ rest → take (suc i) xs ≡ take i xs ++ x ∷ []
+taken_on [] zero x rest e = cc
+taken_on [] (suc i) x rest e = cc
+taken_on (y ∷ ys) zero x rest e = let s : y ≡ x = cc in ap (λ z. z ∷ []) s
+taken_on (y ∷ ys) (suc i) x rest e = ap (λ l. y ∷ l) (taken_on ys i x rest e)
+
+pub next_split : {A B : Type 0} (f : A → B) (xs : List A) (i : ℕ) (x : A) → i < length xs → x ≡ get_or xs i x → drop i (map f xs) ≡ f x ∷ drop (i + 1) (map f xs)
+next_split f xs i x l at = drop_at_member f xs i x l at
+
+pub next_taken : {A B : Type 0} (f : A → B) (xs : List A) (i : ℕ) (x : A) → i < length xs → x ≡ get_or xs i x → take (i + 1) (map f xs) ≡ take i (map f xs) ++ f x ∷ []
+next_taken f xs i x l at = ap (λ n. take n (map f xs)) (add-one i) ∙ taken_on (map f xs) i (f x) (drop (i + 1) (map f xs)) (drop_at_member f xs i x l at)

@@ -1,5 +1,5 @@
 -- What comes of a package whose file has the stated facts.
-use Rattle.std.proofs.Common.{◌≡◌, ◌⊎◌, inl, inr, ℕ, ◌≤◌, ◌<◌, ◌^◌, Bool, true, false, cond, ◌&&◌, List, [], ◌∷◌, length, Option, Some, None, is_some, unwrap_or, Result, Ok, Err, refl, sym, ap, ◌∙◌, subst, arith, nat_lt, nat_eq, eqb-true, find, Equal, ltb-false, true≢false}
+use Rattle.std.proofs.Common.{◌≡◌, ◌⊎◌, inl, inr, ℕ, ◌≤◌, ◌<◌, ◌^◌, Bool, true, false, cond, ◌&&◌, List, [], ◌∷◌, length, Option, Some, None, is_some, unwrap_or, Result, Ok, Err, refl, sym, ap, ◌∙◌, subst, arith, nat_lt, nat_eq, eqb-true, find, Equal, lt-ltb, le-ltb}
 use Rattle.std.specs.Option.{IfSome, option_or}
 use Rattle.std.specs.Ordering.{ordering_reverse}
 use Rattle.std.specs.List.{All, AllByRecursion}
@@ -26,7 +26,10 @@ use Rattle.machine_state.specs.declared.refusal.Refusal.TheVariants.{Limit}
 use Rattle.machine_state.specs.Limits.{limit_number}
 use Rattle.machine_state.specs.State.{IsCatalogue}
 use Rattle.local_repo.specs.Arrival.{and_then, facts_of, agreed, compared, of_file, known_of, of_known_or_file, standing, taken, each_taken}
-use Rattle.local_repo.specs.Fits.{IsTaken, AreTaken}
+use Rattle.machine_state.specs.declared.arrived.UpdateFault.{UpdateFault}
+use Rattle.machine_state.specs.declared.arrived.UpdateFault.TheVariants as faults
+use Rattle.local_repo.specs.Answers.{FaultGives, Tells}
+use Rattle.local_repo.specs.Fits.{IsTaken, IsCompleted, IfWhole}
 use Rattle.local_repo.proofs.ListLemmas.{each_of, equal_is, found_holds, found_itself, found_equal}
 use Rattle.local_repo.proofs.DigestLemmas.{sha1_digest, md5_digest}
 
@@ -105,3 +108,45 @@ standing_taken known p found c d s f h small = by_known (equal_of package_cmp kn
       whole = found_holds package_total IsWhole known (completed p found) q (each_of IsWhole known c.packages) e;
       small = found_holds package_total (λ x. x.said.size ≤ limit_number File) known (completed p found) q (each_of (λ (x : Card). x.said.size ≤ limit_number File) known c.files) e;
     }
+
+-- ---- one package, step by step
+pub taken_large : (files : Files) (known : List Card) (path : Path) (p : Card) → limit_number File < p.said.size → taken files known path p ≡ Err (Limit File)
+unfolding taken
+taken_large files known path p h = ap (λ b. cond b (Err (Limit File)) (and_then (of_known_or_file path p (known_of known p.said.sha256) (files path)) (λ m. Ok (standing known m)))) (lt-ltb (limit_number File) p.said.size h)
+
+small_is : (files : Files) (known : List Card) (path : Path) (p : Card) → p.said.size ≤ limit_number File → taken files known path p ≡ and_then (of_known_or_file path p (known_of known p.said.sha256) (files path)) (λ m. Ok (standing known m))
+unfolding taken
+small_is files known path p h = ap (λ b. cond b (Err (Limit File)) (and_then (of_known_or_file path p (known_of known p.said.sha256) (files path)) (λ m. Ok (standing known m)))) (le-ltb (limit_number File) p.said.size h)
+
+pub taken_fault : (files : Files) (known : List Card) (path : Path) (p : Card) (o : Option Card) (fault : UpdateFault) → o ≡ known_of known p.said.sha256 → p.said.size ≤ limit_number File → FaultGives fault (of_known_or_file path p o (files path)) → FaultGives fault (taken files known path p)
+taken_fault files known path p o faults.HostFault e h g = tt
+taken_fault files known path p o faults.InboxFault e h g = tt
+taken_fault files known path p o faults.OutOfMemory e h g = tt
+taken_fault files known path p o (faults.Refused refusal) e h g =
+    small_is files known path p h ∙ ap (λ r. and_then r (λ m. Ok (standing known m))) (ap (λ x. of_known_or_file path p x (files path)) (sym e) ∙ g)
+
+pub taken_ok : (files : Files) (known : List Card) (path : Path) (p : Card) (o : Option Card) (made q : Card) → o ≡ known_of known p.said.sha256 → p.said.size ≤ limit_number File → of_known_or_file path p o (files path) ≡ Ok made → q ≡ standing known made → taken files known path p ≡ Ok q
+taken_ok files known path p o made q e h g s =
+    small_is files known path p h ∙ ap (λ r. and_then r (λ m. Ok (standing known m))) (ap (λ x. of_known_or_file path p x (files path)) (sym e) ∙ g) ∙ ap Ok (sym s)
+
+pub find_holds : {X : Type 0} (P : X → Type 0) (test : X → Bool) (xs : List X) (x : X) → AllByRecursion P xs → find test xs ≡ Some x → P x
+find_holds P test [] x h e = cc
+find_holds P test (y ∷ ys) x h e = by_test (test y) e (find_holds P test ys x h.1)
+  where
+    by_test : (b : Bool) → cond b (Some y) (find test ys) ≡ Some x → (find test ys ≡ Some x → P x) → P x
+    by_test true g more = let s : y ≡ x = cc in subst P s h.0
+    by_test false g more = more g
+
+pub where_whole : (P : Type 0) (known : List Card) (sha256 : List ℕ) (o : Option Card) → IsCatalogue known → o ≡ known_of known sha256 → IfWhole o P → P
+where_whole P known sha256 None c e h = h
+where_whole P known sha256 (Some q) c e h = h (find_holds IsWhole (λ x. bytes_eq x.said.sha256 sha256) known q (each_of IsWhole known c.packages) (sym e))
+
+pub tells_gives : {Y : Type 0} (fault : UpdateFault) (refusal : Refusal) (wanted : Result Y Refusal) → Tells fault refusal → wanted ≡ Err refusal → FaultGives fault wanted
+tells_gives (faults.Refused told) refusal wanted t e = e ∙ ap Err (sym t)
+tells_gives faults.OutOfMemory refusal wanted t e = tt
+tells_gives faults.HostFault refusal wanted t e = tt
+tells_gives faults.InboxFault refusal wanted t e = tt
+
+pub completed_taken : (known : List Card) (p made q : Card) → IsCatalogue known → IsPackage p → IsSaid p.said → p.said.size ≤ limit_number File → IsCompleted p made → q ≡ standing known made → IsTaken known p q
+completed_taken known p made q c d s small m e =
+    subst (IsTaken known p) (sym (e ∙ ap (standing known) m.is)) (standing_taken known p m.found c d s (record { sha1 = m.sha1; md5 = m.md5 }) m.agrees small)

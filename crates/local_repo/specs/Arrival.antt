@@ -1,6 +1,6 @@
 -- A folder arrives: its index is read, and the files that the index names.
 use Rattle.std.specs.Prelude.{◌≡◌, ℕ, nat_lt, List, [], ◌∷◌, length, map, Option, Some, None, Result, Ok, Err, bytes_eq, codes, find, unwrap_or, if◌then◌else◌}
-use Rattle.std.specs.Option.{option_map}
+use Rattle.std.specs.Option.{option_map, option_or}
 use Rattle.std.specs.Ordering.{is_eq}
 use Rattle.ap_text.specs.Paths.{below_folder}
 use Rattle.ap_host.specs.Disk.{Path, Content, Files}
@@ -52,22 +52,29 @@ abbrev pub or_malformed : {X : Type 0} → Path → Result X ℕ → Result X Re
 or_malformed path (Ok x) = Ok x
 or_malformed path (Err line) = Err (InputMalformed path line)
 
--- a list that is joined refuses so
-abbrev pub list_refusal : ListFault → Refusal
-list_refusal (list_faults.Conflict triple) = Conflict triple
-list_refusal list_faults.Full = Limit Packages
-list_refusal list_faults.OutOfMemory = Limit Packages
+-- a list that would pass this limit refuses so (memory isn't wanted here)
+abbrev pub list_refusal : LimitKind → ListFault → Refusal
+list_refusal limit (list_faults.Conflict triple) = Conflict triple
+list_refusal limit list_faults.Full = Limit limit
+list_refusal limit list_faults.OutOfMemory = Limit limit
 
-abbrev pub or_refused : {X : Type 0} → Result X ListFault → Result X Refusal
-or_refused (Ok x) = Ok x
-or_refused (Err fault) = Err (list_refusal fault)
+abbrev pub or_refused : {X : Type 0} → LimitKind → Result X ListFault → Result X Refusal
+or_refused limit (Ok x) = Ok x
+or_refused limit (Err fault) = Err (list_refusal limit fault)
 
 abbrev pub cards_of : List Entry → List Card
 cards_of entries = map (λ e. e.0) entries
 
--- the path of the first package of the index that is equal to this one
+-- the path of the first package of the index that is equal to this one, if there is one
+abbrev pub entry_for : List Entry → Card → Option Path
+entry_for entries p = option_map (λ e. e.1) (find (λ e. is_eq (package_cmp e.0 p)) entries)
+
 abbrev pub path_of : List Entry → Card → Path
-path_of entries p = unwrap_or (option_map (λ e. e.1) (find (λ e. is_eq (package_cmp e.0 p)) entries)) []
+path_of entries p = unwrap_or (entry_for entries p) []
+
+-- with one more package behind the others
+abbrev pub path_in : Option Path → Card → Path → Card → Option Path
+path_in before one path p = option_or before (if is_eq (package_cmp one p) then Some path else None)
 
 -- the four facts of the file of a complete package
 abbrev pub facts_of : Card → Digests
@@ -88,6 +95,10 @@ of_file path p (Some bytes) = compared path p (digests_of bytes)
 -- the first known package whose file has this SHA-256
 abbrev pub known_of : List Card → List ℕ → Option Card
 known_of known sha256 = find (λ q. bytes_eq q.said.sha256 sha256) known
+
+-- with one more package behind the others
+abbrev pub file_in : Option Card → Card → List ℕ → Option Card
+file_in before one sha256 = option_or before (if bytes_eq one.said.sha256 sha256 then Some one else None)
 
 -- what is known of the file serves, else it is read
 abbrev pub of_known_or_file : Path → Card → Option Card → Content → Result Card Refusal
@@ -110,21 +121,24 @@ each_taken take [] = Ok []
 each_taken take (p ∷ ps) = and_then (take p) (λ q. and_then (each_taken take ps) (λ qs. Ok (q ∷ qs)))
 
 -- the known packages aren't too many, and their texts not too long
+abbrev pub known_answer : List Card → Result (List Card) Refusal
+known_answer known = if nat_lt (limit_number Known) (length known) then Err (Limit Known) else Ok known
+
 abbrev pub within_catalogue : List Card → Result (Unit {0}) Refusal
 within_catalogue known =
-    if nat_lt (limit_number Known) (length known) then Err (Limit Known)
-    else if nat_lt (limit_number Catalogue) (text_length known) then Err (Limit Catalogue)
-    else Ok tt
+    and_then (known_answer known) (λ all. if nat_lt (limit_number Catalogue) (text_length all) then Err (Limit Catalogue) else Ok tt)
 
 -- the list can be added to the repository's own and to what is known
-unfoldable pub fitting : List Card → List Card → List Card → Result (List Card) Refusal
-fitting known own list =
-    and_then (or_refused (append_answer own list)) (λ _. and_then (within_catalogue (union known list)) (λ _. Ok list))
+unfoldable pub check_answer : List Card → List Card → List Card → Result (Unit {0}) Refusal
+check_answer known own list = and_then (or_refused Packages (append_answer own list)) (λ _. within_catalogue (union known list))
+
+abbrev pub fitting : List Card → List Card → List Card → Result (List Card) Refusal
+fitting known own list = and_then (check_answer known own list) (λ _. Ok list)
 
 -- the packages of a readable index
 unfoldable pub entries_arrive : Files → List Card → List Card → Path → List Entry → Result (List Card) Refusal
 entries_arrive files known own folder entries =
-    and_then (or_refused (join_answer (cards_of entries))) (λ joined.
+    and_then (or_refused Packages (join_answer (cards_of entries))) (λ joined.
     and_then (each_taken (λ p. taken files known (below_folder folder (path_of entries p)) p) joined) (λ list. fitting known own list))
 
 abbrev pub list_in : Option Repo → List Card

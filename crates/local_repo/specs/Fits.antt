@@ -1,9 +1,11 @@
 -- What a list makes of a state to which it is added.
-use Rattle.std.specs.Prelude.{◌≡◌, ◌⊎◌, ◌≤◌, ℕ, List, [], ◌∷◌, Some, None, map, bytes_eq, All, if◌then◌else◌}
+use Rattle.std.specs.Prelude.{◌≡◌, ◌⊎◌, ◌≤◌, ℕ, List, [], ◌∷◌, Option, Some, None, map, bytes_eq, All, if◌then◌else◌}
 use Rattle.std.specs.declared.cmp.Ordering.TheVariants.{Equal}
-use Rattle.package_core.specs.Card.{Card}
+use Rattle.digest_set.specs.declared.facts.Digests.{Digests}
+use Rattle.digest_set.specs.Difference.{difference}
+use Rattle.package_core.specs.Card.{Card, completed}
 use Rattle.package_core.specs.Order.{package_cmp}
-use Rattle.package_core.specs.Whole.{IsWhole}
+use Rattle.package_core.specs.Whole.{IsDigest, IsWhole}
 use Rattle.package_list.specs.Sorted.{equal_of}
 use Rattle.package_list.specs.Lists.{union}
 use Rattle.machine_state.specs.declared.limit.Limit.TheVariants.{File}
@@ -31,6 +33,19 @@ pub record IsTaken (known : List Card) (p q : Card) : Type 0 where
   pub stands : (equal_of package_cmp known q ≡ Some q) ⊎ (equal_of package_cmp known q ≡ None)
   pub whole : IsWhole q
   pub small : q.said.size ≤ limit_number File
+
+-- the package with digests of its file, of which none differs from what is stated
+pub record IsCompleted (p q : Card) : Type 0 where
+  pub found : Digests
+  pub sha1 : IsDigest 20 found.sha1
+  pub md5 : IsDigest 16 found.md5
+  pub agrees : difference p.said found ≡ None
+  pub is : q ≡ completed p found
+
+-- P, where a package that serves for its file is whole
+abbrev pub IfWhole : Option Card → Type 0 → Type 0
+IfWhole None P = P
+IfWhole (Some q) P = IsWhole q → P
 
 -- the same of each of two lists
 abbrev pub AreTaken : List Card → List Card → List Card → Type 0

@@ -2,7 +2,16 @@
 #![tactic(auto)]
 
 mod arrive;
+mod body;
+mod by_package;
+mod fault;
+mod fit;
+mod index;
+mod join;
+mod known;
 mod laws;
+#[cfg(test)]
+mod tests;
 
 pub use arrive::add;
 pub use laws::arrivals_fit;

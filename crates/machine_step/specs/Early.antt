@@ -6,6 +6,7 @@ use Rattle.command_words.specs.Plain.{PlainCommand, repo_create, repo_add, repo_
 use Rattle.query_grammar.specs.Tree.{Tree}
 use Rattle.machine_state.specs.declared.limit.Kind.TheVariants.{Repo}
 use Rattle.machine_state.specs.declared.refusal.Refusal.{Refusal}
+use Rattle.machine_state.specs.declared.repo.Repo.{Repo as RepoOf}
 use Rattle.machine_state.specs.declared.refusal.Refusal.TheVariants.{NotBuilt, BadName, Exists, Unknown, BadQuery}
 use Rattle.machine_state.specs.State.{repo_of}
 use Rattle.machine_state.specs.Values.{StateView}
@@ -27,12 +28,17 @@ abbrev pub bad_folder : List ℕ → Option Refusal
 bad_folder path = if is_folder path then None else Some (BadName path)
 
 -- a repository has the name already
-abbrev pub taken : StateView → List ℕ → Option Refusal
-taken state name = if is_some (repo_of name state.repos) then Some (Exists Repo name) else None
+abbrev pub taken : List RepoOf → List ℕ → Option Refusal
+taken repos name = if is_some (repo_of name repos) then Some (Exists Repo name) else None
 
 -- no repository has the name
-abbrev pub unknown : StateView → List ℕ → Option Refusal
-unknown state name = if is_some (repo_of name state.repos) then None else Some (Unknown Repo name)
+abbrev pub unknown : List RepoOf → List ℕ → Option Refusal
+unknown repos name = if is_some (repo_of name repos) then None else Some (Unknown Repo name)
+
+-- the flags of a new repository aren't built
+abbrev pub flagged : Option (List ℕ) → Option (List ℕ) → Option (List ℕ) → Option Refusal
+flagged None None None = None
+flagged comment distribution component = Some NotBuilt
 
 -- the first query of a command is none
 abbrev pub bad_query : Result Tree ℕ → Option Refusal
@@ -42,9 +48,9 @@ bad_query (Err place) = Some (BadQuery 1 place)
 -- The first refusal that holds before patterns are built: of a command that isn't built, then of names in the order of the
 -- words, then of what is there or isn't, then of queries.
 unfoldable pub early : StateView → PlainCommand → Option Refusal
-early state (repo_create None None None name) = or_else (bad_name name) (taken state name)
-early state (repo_add name folder) = or_else (bad_name name) (or_else (bad_folder folder) (unknown state name))
-early state (repo_show packages name) = or_else (bad_name name) (unknown state name)
+early state (repo_create comment distribution component name) = or_else (flagged comment distribution component) (or_else (bad_name name) (taken state.repos name))
+early state (repo_add name folder) = or_else (bad_name name) (or_else (bad_folder folder) (unknown state.repos name))
+early state (repo_show packages name) = or_else (bad_name name) (unknown state.repos name)
 early state (package_search query) = bad_query (query_of query)
 early state (package_show query) = bad_query (query_of query)
 early state command = Some NotBuilt

@@ -6,6 +6,8 @@ ghost use Rattle.machine_state.specs.State.{Valid};
 ghost use Rattle.machine_state.specs.Values.{StateView};
 ghost use Rattle.machine_step.specs.Step.{Step, Came};
 
+use local_repo::arrivals_fit;
+
 /// What holds of every step.
 pub fn laws_of_steps()
     // A valid state goes over into a valid one.
@@ -18,4 +20,6 @@ pub fn laws_of_steps()
     ensures says { (files : Option Files) (large : Option (List ℕ)) (state : StateView) (command : PlainCommand) (came : Came) → Step files large state command came → came.reply ≢ [] }
     // Which text was too large matters to refusals alone.
     ensures plain { (files : Option Files) (large other : Option (List ℕ)) (state : StateView) (command : PlainCommand) (came : Came) → came.refusal ≡ None → Step files large state command came → Step files other state command came }
-{}
+{
+    arrivals_fit();
+}

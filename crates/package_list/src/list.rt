@@ -58,6 +58,21 @@ impl PackageList {
         }
     }
 
+    /// The list of these packages, which stand in the order of packages, no two of them equal.
+    pub fn from_ascending(items: Vec<Rc<Package>>) -> PackageList
+        requires { IsAscending package_cmp (map rc_value items.items) }
+        ensures { result ≡ map rc_value items.items }
+    {
+        PackageList { items }
+    }
+
+    /// The members stand in the order of packages, no two of them equal.
+    pub fn members_ascend(&self)
+        ensures { IsAscending package_cmp self.now }
+    {
+        let _ = &self.items;
+    }
+
     /// The packages joined in the order in which they stand; of equal ones the first stays. The first that can't join those
     /// before it decides the fault: `Conflict` where none of those is its equal and one of them has its triple; else `Full`
     /// where it would be the 200,001st member. It takes n log n comparisons, and moves each package once.
