@@ -6,3 +6,4 @@ pub mod RootParts
 pub mod TakesLemmas
 pub mod ValidLemmas
 pub mod RootTexts
+pub mod KnownLemmas

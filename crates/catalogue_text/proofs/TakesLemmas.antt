@@ -46,11 +46,11 @@ no_package_line text a r w o l e =
     other h = let t : bytes_eq (codes "package ") (codes "package ") ≡ false = ap (λ b. bytes_eq b (codes "package ")) (sym h) ∙ o in
         let s : bytes_eq (codes "package ") (codes "package ") ≡ true = equal_bytes (codes "package ") in cc
 
-packed_front : (p : Card) (r : List ℕ) → piece_text (packed p) ++ r ≡ codes "package " ++ (decimal (length (package_text p)) ++ (10 ∷ (package_text p ++ r)))
+pub packed_front : (p : Card) (r : List ℕ) → piece_text (packed p) ++ r ≡ codes "package " ++ (decimal (length (package_text p)) ++ (10 ∷ (package_text p ++ r)))
 packed_front p r = append_assoc (package_line (length (package_text p))) (10 ∷ package_text p) r
 
 -- ---- a package with its line
-same_length : {X : Type 0} (xs ys a b : List X) → length xs ≡ length ys → xs ++ a ≡ ys ++ b → (xs ≡ ys) × (a ≡ b)
+pub same_length : {X : Type 0} (xs ys a b : List X) → length xs ≡ length ys → xs ++ a ≡ ys ++ b → (xs ≡ ys) × (a ≡ b)
 same_length [] [] a b e h = (refl, h)
 same_length [] (y ∷ ys) a b e h = absurd (omega arith)
 same_length (x ∷ xs) [] a b e h = absurd (omega arith)
@@ -173,10 +173,10 @@ ended_more [] y ys h = h
 ended_more (x ∷ []) y ys h = h
 ended_more (x ∷ z ∷ xs) y ys h = ended_more (z ∷ xs) y ys h
 
-abbrev IsClosed : List ℕ → Type 0
+abbrev pub IsClosed : List ℕ → Type 0
 IsClosed text = (front : List ℕ) × (text ≡ front ++ 10 ∷ [])
 
-package_closed : (p : Card) → IsClosed (package_text p)
+pub package_closed : (p : Card) → IsClosed (package_text p)
 unfolding package_text file_text
 package_closed p =
     closed_append (stanza_text p.stanza) (file_text p)
