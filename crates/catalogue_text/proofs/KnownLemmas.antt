@@ -165,3 +165,10 @@ textual found own p none only w e = let t = only p (record { whole = w; text = s
 pub read_text_is : (found : Option Card) (own : List ℕ) (p : Card) → found ≡ Some p → IfSome found (IsTextOf own) → IsTextOf own p
 read_text_is None own p e h = cc
 read_text_is (Some q) own p e h = let same : q ≡ p = cc in subst (IsTextOf own) same h
+
+pub read_only : (found : Option Card) (own : List ℕ) (p q : Card) → found ≡ Some q → ((r : Card) → IsTextOf own r → found ≡ Some r) → IsWhole p → own ≡ package_text p → p ≡ q
+read_only found own p q is only w e = same found is (only p (record { whole = w; text = sym e }))
+  where
+    same : (o : Option Card) → o ≡ Some q → o ≡ Some p → p ≡ q
+    same None a b = cc
+    same (Some r) a b = cc

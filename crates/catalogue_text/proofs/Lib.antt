@@ -7,3 +7,4 @@ pub mod TakesLemmas
 pub mod ValidLemmas
 pub mod RootTexts
 pub mod KnownLemmas
+pub mod ReadLemmas

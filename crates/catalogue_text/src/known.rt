@@ -119,7 +119,7 @@ fn package_at<'a>(
     alloc: Global,
     text: &'a [u8],
 ) -> Result<Option<(Package, &'a [u8], &'a [u8])>, AllocError>
-    ensures { IfOk result (λ found. MatchOption found ((p : Card) (behind : List ℕ) → Begins text.now (packed p) behind → ⊥) (λ t. Begins text.now (packed t.0) t.2.now × (t.1.now ≡ package_text t.0))) }
+    ensures { IfOk result (λ found. MatchOption found ((p : Card) (behind : List ℕ) → Begins text.now (packed p) behind → ⊥) (λ t. Begins text.now (packed t.0) t.2.now × (t.1.now ≡ package_text t.0) × ((p : Card) (behind : List ℕ) → Begins text.now (packed p) behind → p ≡ t.0))) }
 {
     let most = size_of(text);
     let Some((size, rest)) = count_line(alloc, text, "package ", most)? else {
@@ -171,7 +171,7 @@ fn read_packages(alloc: Global, text: &[u8], count: u64) -> Result<(Known, &[u8]
 {
     let mut known = Known::new(alloc);
     let mut rest = text;
-    for _ in 0..count {
+    for _read in 0..count {
         match next_package(alloc, rest, &mut known)? {
             None => return Err(Stop::Before(rest.len())),
             Some(behind) => rest = behind,
