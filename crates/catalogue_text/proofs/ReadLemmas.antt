@@ -39,6 +39,27 @@ takes_push pieces xs x text mid rest t u =
 pub length_push : {X : Type 0} (xs : List X) (x : X) (n : ℕ) → length xs ≡ n → length (xs ++ x ∷ []) ≡ n + 1
 length_push xs x n e = let a = length-append xs (x ∷ []) in omega arith
 
+-- a series with one more
+module _ {X : Type 0} (pieces : X → List Piece) (Good : List X → X → Type 0) where
+  pub record IsRead (count : ℕ) (text : List ℕ) (xs : List X) (rest : List ℕ) : Type 0 where
+    pub counted : length xs ≡ count
+    pub good : Each Good [] xs
+    pub takes : Takes text (flat_map pieces xs) rest
+
+  pub reads_more : (count : ℕ) (text mid rest : List ℕ) (xs ys : List X) (x : X) → IsRead count text xs mid → Good xs x → Takes mid (pieces x) rest → ys ≡ xs ++ x ∷ [] → IsRead (count + 1) text ys rest
+  reads_more count text mid rest xs ys x r g t e = subst (λ (l : List X). IsRead (count + 1) text l rest) (sym e) (record {
+    counted = length_push xs x count r.counted;
+    good = each_push_of xs x r.good g;
+    takes = takes_push pieces xs x text mid rest r.takes t;
+  })
+    where
+      pushed : (done xs : List X) (x : X) → Each Good done xs → Good (done ++ xs) x → Each Good done (xs ++ x ∷ [])
+      pushed done [] x e g = (subst (λ (d : List X). Good d x) (append-nil done) g, tt)
+      pushed done (y ∷ ys) x e g = (e.0, pushed (done ++ y ∷ []) ys x e.1 (subst (λ (d : List X). Good d x) (sym (append_assoc done (y ∷ []) ys)) g))
+
+      each_push_of : (xs : List X) (x : X) → Each Good [] xs → Good xs x → Each Good [] (xs ++ x ∷ [])
+      each_push_of xs x e g = pushed [] xs x e g
+
 -- ---- where one stops
 pub stops_package : (before : List Card) (text : List ℕ) → ((p : Card) (behind : List ℕ) → Begins text (packed p) behind → AllLess package_cmp before p → ⊥) → Stops (NextPackage before) text (length text)
 stops_package before text none = record {

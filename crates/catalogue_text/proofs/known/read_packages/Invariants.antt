@@ -9,7 +9,7 @@ use Rattle.catalogue_text.proofs.known.read_packages.Given as goal
 
 abbrev pub invariant-loop-read : goal.invariant-loop-read
 invariant-loop-read l = record {
-  counted : length l.known.list ≡ l.read;
+  counted : length l.known.list ≡ l._read;
   good : Each (AllLess package_cmp) [] l.known.list;
   takes : Takes l.fn.text (flat_map package_pieces l.known.list) l.rest;
   indexed : IsIndexed l.known;

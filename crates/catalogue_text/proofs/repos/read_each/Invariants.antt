@@ -9,7 +9,7 @@ use Rattle.catalogue_text.proofs.repos.read_each.Given as goal
 
 abbrev pub invariant-loop-read : goal.invariant-loop-read
 invariant-loop-read l = record {
-  counted : length l.repos.items ≡ l.read;
+  counted : length l.repos.items ≡ l._read;
   good : Each (GoodRepo l.known.list) [] l.repos.items;
   takes : Takes l.fn.text (flat_map repo_pieces l.repos.items) l.rest;
 }

@@ -8,7 +8,7 @@ use Rattle.catalogue_text.proofs.sets.read_members.Given as goal
 
 abbrev pub invariant-loop-read : goal.invariant-loop-read
 invariant-loop-read l = record {
-  counted : length l.list ≡ l.read;
+  counted : length l.list ≡ l._read;
   good : Each (MayJoin l.known.list) [] l.list;
   takes : Takes l.fn.text (flat_map member_pieces l.list) l.rest;
 }
