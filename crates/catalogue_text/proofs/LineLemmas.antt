@@ -52,7 +52,7 @@ behind_none text key e rest f =
     let same : bytes_eq key key ≡ true = equal_bytes key in cc
 
 -- ---- a text has one first line
-plain_cut : (a b r s : List ℕ) → IsPlain a → IsPlain b → a ++ 10 ∷ r ≡ b ++ 10 ∷ s → (a ≡ b) × (r ≡ s)
+pub plain_cut : (a b r s : List ℕ) → IsPlain a → IsPlain b → a ++ 10 ∷ r ≡ b ++ 10 ∷ s → (a ≡ b) × (r ≡ s)
 plain_cut [] [] r s p q e = (refl, cc)
 plain_cut [] (y ∷ ys) r s p q e = let h : 10 ≡ y = cc in absurd (apart y (or_parts (y == 10) (list_any (λ c. c == 10) ys) q).0 h)
   where

@@ -148,7 +148,7 @@ module _ (known : List Card) where
 names_apart : (key a b : List ℕ) → key ++ a ≡ key ++ b → b ≡ a
 names_apart key a b e = sym (append_cancel_left key a b e)
 
-settings_apart : (a b : List ℕ) → blank_and a ≡ blank_and b → a ≡ b
+pub settings_apart : (a b : List ℕ) → blank_and a ≡ blank_and b → a ≡ b
 settings_apart [] [] e = refl
 settings_apart [] (y ∷ ys) e = cc
 settings_apart (x ∷ xs) [] e = cc

@@ -1,12 +1,12 @@
 -- Lines that give one value each.
-use Rattle.std.proofs.Common.{rules, ◌≡◌, ℕ, zero, suc, ◌<◌, ◌^◌, true, false, List, [], ◌∷◌, ◌++◌, get_or, Option, Some, None, Result, Ok, Err, IsTrue, IsFalse, sym, ap, subst, arith}
+use Rattle.std.proofs.Common.{rules, ◌≡◌, ℕ, zero, suc, ◌<◌, ◌^◌, true, false, not, codes, ◌∙◌, List, [], ◌∷◌, ◌++◌, get_or, Option, Some, None, Result, Ok, Err, IsTrue, IsFalse, refl, sym, ap, subst, arith}
 use Rattle.std.specs.List.{list_all}
 use Rattle.std.specs.Str.{IsUtf8, bytes_eq}
 use Rattle.std.proofs.lemmas.Slice.Eq.{bytes_eq-Decides}
 use Rattle.std.specs.Str.Parse.{ParsesUnsigned}
 use Rattle.std.specs.Fmt.{decimal}
 use Rattle.std.specs.Option.{MatchOption}
-use Rattle.std.proofs.lemmas.Bool.{and_parts, false_from_ne_true}
+use Rattle.std.proofs.lemmas.Bool.{and_parts, false_from_ne_true, true≢false}
 use Rattle.std.proofs.lemmas.Bool.Decides.{nat_tests}
 use Rattle.std.proofs.lemmas.Fmt.{parse-decimal, IsAscii-decimal}
 use Rattle.std.proofs.lemmas.List.{append_cancel_left}
@@ -64,3 +64,24 @@ apart a b e f = let t : bytes_eq b b ≡ true = itself b in cc
   where
     itself : (x : List ℕ) → bytes_eq x x ≡ true
     itself x = search (rules, bytes_eq-Decides)
+
+-- what an option says
+pub at_none : {B : Type 0} (found : Option B) (P : Type 0) (Q : B → Type 0) → MatchOption found P Q → found ≡ None → P
+at_none None P Q h e = h
+at_none (Some x) P Q h e = cc
+
+pub at_some : {B : Type 0} (found : Option B) (P : Type 0) (Q : B → Type 0) (x : B) → MatchOption found P Q → found ≡ Some x → Q x
+at_some None P Q x h e = cc
+at_some (Some y) P Q x h e = let same : y ≡ x = cc in subst Q same h
+
+-- what a pattern didn't fit holds nothing
+pub at_default : {B : Type 0} (found : Option B) (P : Type 0) (Q : B → Type 0) → MatchOption found P Q → ((x : B) → found ≡ Some x → ⊥) → P
+at_default None P Q h n = h
+at_default (Some x) P Q h n = absurd (n x refl)
+
+pub not_release : (a name : List ℕ) → is_component a ≡ true → name ≡ a → true ≡ bytes_eq name (codes "Release") → ⊥
+not_release a name g e h =
+    let p = (and_parts (is_name a) (not (bytes_eq a (codes "Release"))) g).1 in
+    let t : bytes_eq a (codes "Release") ≡ true = ap (λ x. bytes_eq x (codes "Release")) (sym e) ∙ sym h in
+    let f : not (bytes_eq a (codes "Release")) ≡ false = ap not t in
+    true≢false (sym p ∙ f)

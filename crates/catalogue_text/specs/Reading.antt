@@ -97,6 +97,9 @@ abbrev pub PlaceIs : List Card → List ℕ → Option ℕ → Type 0
 PlaceIs list id None = (i : ℕ) (p : Card) → slice_get list i ≡ Some p → id_of p ≡ id → ⊥
 PlaceIs list id (Some i) = (p : Card) × (slice_get list i ≡ Some p) × (id_of p ≡ id)
 
+abbrev pub IsSmall : Card → Type 0
+IsSmall p = p.said.size ≤ limit_number File
+
 abbrev pub RoomIs : List Card → Option ℕ → Type 0
 RoomIs list None = limit_number Catalogue < text_length list
 RoomIs list (Some room) = room + text_length list ≡ limit_number Catalogue
@@ -105,7 +108,7 @@ pub record IsIndexed (known : Known) : Type 0 where
   pub sorted : IsAscending package_cmp known.list
   pub places : (id : List ℕ) → PlaceIs known.list id (get_by_text known.places id)
   pub room : RoomIs known.list known.room
-  pub small : IsTrue known.small ↔ All (λ p. p.said.size ≤ limit_number File) known.list
+  pub small : IsTrue known.small ↔ All IsSmall known.list
 
 -- The text stops where so many bytes are left: the pieces before them can stand in a root, no piece that stands there can
 -- stand behind them, and no valid state has this text as its root.

@@ -1,5 +1,5 @@
 //! The packages of a root.
-ghost use Rattle.std.specs.Prelude.{◌≡◌, ◌++◌, ◌∷◌, ◌≤◌, ◌↔◌, IsTrue, ℕ, [], List, Option, Some, IfOk, IfErr, OnErr, MatchOption, MatchResult, length, string_bytes, slice_get, if◌then◌else◌};
+ghost use Rattle.std.specs.Prelude.{◌≡◌, ◌++◌, ◌∷◌, ◌≤◌, ◌↔◌, IsTrue, All, ℕ, [], List, Option, Some, IfOk, IfErr, OnErr, MatchOption, MatchResult, length, string_bytes, slice_get, MatchBool};
 ghost use Rattle.hex.specs.Hex.{encode_lower};
 ghost use Rattle.sha2.specs.Sha256.{sha256};
 ghost use Rattle.package_core.specs.Card.{Card, package_text};
@@ -11,9 +11,9 @@ ghost use Rattle.machine_state.specs.Limits.{limit_number};
 ghost use Rattle.catalogue_text.specs.Pieces.{packed, Begins};
 ghost use Rattle.catalogue_text.specs.Root.{id_of, known_pieces};
 ghost use Rattle.catalogue_text.specs.Grammar.{Series, NextPackage, KnownPart, IsWithinLimits};
-ghost use Rattle.catalogue_text.specs.Reading.{IfBefore, Stops, ReadsSeries, ReadsPart, GoodKnown, IsIndexed, PlaceIs, RoomIs, AddsPackage};
+ghost use Rattle.catalogue_text.specs.Reading.{IfBefore, Stops, ReadsSeries, ReadsPart, GoodKnown, IsIndexed, PlaceIs, RoomIs, IsSmall, AddsPackage};
 
-use crate::lines::{after_line, as_text};
+use crate::lines::{after_line, as_text, size_of};
 use crate::stop::Stop;
 use crate::values::count_line;
 use machine_state::Limit;
@@ -72,19 +72,26 @@ impl Known {
     fn push(&mut self, alloc: Global, new: Package, text: &[u8]) -> Result<bool, AllocError>
         requires indexed { IsIndexed self.old }
         requires text { text.now ≡ package_text new }
-        ensures answer { IfOk result (λ done. if done then AllLess package_cmp self.old.list new × (self.new.list ≡ self.old.list ++ new ∷ []) else (AllLess package_cmp self.old.list new → ⊥)) }
+        ensures answer { IfOk result (λ done. MatchBool done (AllLess package_cmp self.old.list new × (self.new.list ≡ self.old.list ++ new ∷ [])) (AllLess package_cmp self.old.list new → ⊥)) }
         ensures indexed { IfOk result (λ done. IsIndexed self.new) }
     {
-        let small = new.said.size <= Limit::File.number();
+        let small = are_small(self.small, &new);
         if !self.list.push(alloc, new)? {
             return Ok(false);
         }
         let place = self.list.len() - 1;
         self.places.insert(id_text(alloc, text)?, place)?;
         self.room = less(self.room, text.len() as u64);
-        self.small = self.small && small;
+        self.small = small;
         Ok(true)
     }
+}
+
+/// Whether this file is within the limit too, where that is known of those before it.
+fn are_small(before: bool, new: &Package) -> bool
+    ensures { (list : List Card) → (IsTrue before ↔ All IsSmall list) → IsTrue result ↔ All IsSmall (list ++ new.now ∷ []) }
+{
+    before && new.said.size <= Limit::File.number()
 }
 
 /// What is left of a room, where there is as much in it.
@@ -112,9 +119,10 @@ fn package_at<'a>(
     alloc: Global,
     text: &'a [u8],
 ) -> Result<Option<(Package, &'a [u8], &'a [u8])>, AllocError>
-    ensures { IfOk result (λ found. MatchOption found ((p : Card) (behind : List ℕ) → Begins text.now (packed p) behind → ⊥) (λ t. Begins text.now (packed t.0) t.2.now × (t.1.now ≡ package_text t.0))) }
+    ensures { IfOk result (λ found. MatchOption found ((p : Card) (behind : List ℕ) → Begins text.now (packed p) behind → ⊥) (λ t. Begins text.now (packed t.0) t.2.now × (t.1.now ≡ package_text t.0) × ((p : Card) (behind : List ℕ) → Begins text.now (packed p) behind → p ≡ t.0))) }
 {
-    let Some((size, rest)) = count_line(alloc, text, "package ", u64::MAX)? else {
+    let most = size_of(text);
+    let Some((size, rest)) = count_line(alloc, text, "package ", most)? else {
         return Ok(None);
     };
     let Some((own, behind)) = front_of(rest, size) else {
@@ -163,7 +171,7 @@ fn read_packages(alloc: Global, text: &[u8], count: u64) -> Result<(Known, &[u8]
 {
     let mut known = Known::new(alloc);
     let mut rest = text;
-    for _ in 0..count {
+    for _read in 0..count {
         match next_package(alloc, rest, &mut known)? {
             None => return Err(Stop::Before(rest.len())),
             Some(behind) => rest = behind,

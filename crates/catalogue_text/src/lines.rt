@@ -1,5 +1,5 @@
 //! The lines of a text, from the front.
-ghost use Rattle.std.specs.Prelude.{◌≡◌, ◌∷◌, ◌++◌, ◌-◌, ◌+◌, ℕ, List, [], MatchOption, ◌≤◌, ◌<◌, ◌==◌, length, take, false, slice_index, if◌then◌else◌};
+ghost use Rattle.std.specs.Prelude.{◌≡◌, ◌∷◌, ◌++◌, ◌-◌, ◌+◌, ℕ, List, [], MatchOption, ◌≤◌, ◌<◌, ◌^◌, ◌==◌, length, take, false, slice_index, if◌then◌else◌};
 ghost use Rattle.std.specs.List.{list_any};
 ghost use Rattle.std.specs.Str.{IsUtf8};
 ghost use Rattle.catalogue_text.specs.Lines.{IsLine, is_ended as ended, line_ends as line_ends_of};
@@ -106,6 +106,14 @@ pub(crate) fn line_before(text: &[u8], left: usize) -> u64
     let (front, _) = text.split_at(text.len() - left);
     let ends = line_ends(front) as u64;
     if is_ended(front) { ends + 1 } else { ends + 2 }
+}
+
+/// How many bytes a text has.
+pub(crate) fn size_of(text: &[u8]) -> u64
+    ensures same { result ≡ length text.now }
+    ensures small { length text.now < 2 ^ 64 }
+{
+    text.len() as u64
 }
 
 /// The bytes as text, where they are UTF-8.

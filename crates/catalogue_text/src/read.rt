@@ -17,7 +17,7 @@ use std::alloc::Global;
 /// The text behind the end of a root that has these packages, or how many bytes are left where it stops.
 fn read_last<'a>(text: &'a [u8], known: &Known) -> Result<&'a [u8], usize>
     requires { IsIndexed known.now }
-    ensures { MatchResult result (λ rest. ReadsPart (λ u. last_pieces) (λ u. IsWithinLimits known.now.list) text.now tt rest.now) (Stops (LastPart known.now.list) text.now) }
+    ensures { MatchResult result (λ rest. ReadsPart {A = Unit {0}} (λ u. last_pieces) (λ u. IsWithinLimits known.now.list) text.now tt rest.now) (Stops (LastPart known.now.list) text.now) }
 {
     let Some(behind) = after_line(text, "snapshots 0") else {
         return Err(text.len());

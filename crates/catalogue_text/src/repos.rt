@@ -78,7 +78,7 @@ fn read_each<'a>(
 {
     let mut repos = Vec::new(alloc);
     let mut rest = text;
-    for _ in 0..count {
+    for _read in 0..count {
         let (repo, behind) = read_repo(alloc, rest, known, &repos)?;
         repos.push(repo)?;
         rest = behind;

@@ -49,7 +49,7 @@ fn read_members<'a>(
 {
     let mut list = PackageList::new(alloc);
     let mut rest = text;
-    for _ in 0..count {
+    for _read in 0..count {
         match next_member(rest, known, &mut list)? {
             None => return Err(Stop::Before(rest.len())),
             Some(behind) => rest = behind,
