@@ -27,16 +27,17 @@ use Rattle.machine_state.specs.declared.arrived.UpdateFault.TheVariants as updat
 use Rattle.machine_state.specs.Ascending as ascending
 use Rattle.machine_state.specs.State.{Valid, repo_cmp}
 use Rattle.machine_state.specs.Values.{StateView}
-use Rattle.local_repo.specs.Answers.{IsArrival, Comes, Adds, IfList}
-use Rattle.local_repo.specs.Bodies.{HasBody, DigestsApart}
+use Rattle.local_repo.specs.Answers.{IsArrival, Comes, Adds, IfList, Fills}
+use Rattle.local_repo.specs.Bodies.{HasBody, IsMet, DigestsApart}
 use Rattle.local_repo.specs.Fits.{added}
 use Rattle.reply_text.specs.Refusals.{refusal_line}
 use Rattle.reply_text.specs.Replies as replies
 use Rattle.ap_text.specs.Paths.{is_safe_path}
 use Rattle.machine_step.specs.declared.outcome.Outcome.{Outcome as Made}
-use Rattle.machine_step.specs.Answers.{seen, reading_for, IsTold, Told, IsNeed, IsNew}
+use Rattle.machine_step.specs.Answers.{seen, reading_for, IsTold, Told}
 use Rattle.machine_step.specs.Early.{early, or_else, bad_name, bad_folder, unknown, conditions, AfterNames, Refuses, folder_read}
-use Rattle.machine_step.specs.Queries.{IsCondition, IsPatternRefusal}
+use Rattle.query_eval.specs.Conditions.{IsCondition}
+use Rattle.machine_step.specs.Queries.{IsPatternRefusal}
 use Rattle.machine_step.specs.declared.outcome.Reading.{Reading}
 use Rattle.machine_step.specs.declared.outcome.Reading.TheVariants as readings
 use Rattle.machine_step.specs.Step.{Came, refused, new_repo, created, taken_in, done, came_to, MayArrive, MayArriveFor, StepWith, Step}
@@ -75,6 +76,14 @@ decides_refused input s st out none l = record {
 abbrev pub HoldsOf : Option Files → StateView → Log → List Op → List Card → Type 0
 HoldsOf input s l ops list = (inbox : Files) → input ≡ Some inbox → IsNamed (live_of l) → All (HasBody (live_of l)) s.known → DigestsApart (live_of l) inbox → All (HasBody (live_of (extended ops l))) list
 
+-- what stands in the pool behind the arrival stood there, or is a file of the inbox
+met_before : (inbox : Files) (l : Log) (ops : List Op) → Fills inbox l (extended ops l) → (bytes : List ℕ) → IsMet (live_of (extended ops l)) inbox bytes → IsMet (live_of l) inbox bytes
+met_before inbox l ops fills bytes (inr w) = inr w
+met_before inbox l ops fills bytes (inl w) = elim (fills w.0 w.1) [
+  | inl same ↦ inl (w.0, w.1, sym same ∙ w.2)
+  | inr new ↦ inr (new.0, new.2 ∙ sym new.4 ∙ w.2)
+]
+
 pub arrives_added : (input : Option Files) (s : StateView) (before now : StageState) (given : Result Arrived UpdateFault) (r : Result Arrived RunFault) → r ≡ arrived_of given → (l : Log) (ops : List Op) → Adds input s.known given before now l ops → Arrives input s before now r l ops
 arrives_added input s before now given r is l ops w = subst (λ v. Arrives input s before now v l ops) (sym is) (record {
   grows = w.grows;
@@ -82,7 +91,7 @@ arrives_added input s before now given r is l ops w = subst (λ v. Arrives input
   apart = λ apart. record {
     inbox = apart.inbox;
     told = apart.told;
-    apart = λ a b x y. apart.apart a b (w.met apart.inbox apart.told a x) (w.met apart.inbox apart.told b y);
+    apart = λ a b x y. apart.apart a b (met_before apart.inbox l ops (w.fills apart.inbox apart.told) a x) (met_before apart.inbox l ops (w.fills apart.inbox apart.told) b y);
   };
   bodies = go given w.bodies;
 })

@@ -8,7 +8,7 @@ use Rattle.machine_state.specs.State.{Valid, empty}
 use Rattle.machine_state.specs.Values.{StateView}
 use Rattle.catalogue_text.specs.Root.{root_text}
 use Rattle.catalogue_text.specs.Faults.{TextsApart, IsFirstBadLine}
-use Rattle.catalogue_text.proofs.OneState.{one_state}
+use Rattle.catalogue_text.proofs.RootTexts.{one_state}
 use Rattle.local_repo.specs.Bodies.{HasBody}
 use Rattle.aptly_core.specs.declared.catalogue_root.LoadFault.{LoadFault}
 use Rattle.aptly_core.specs.declared.catalogue_root.LoadFault.TheVariants.{Damaged, HostFault, OutOfMemory}
@@ -52,7 +52,7 @@ pub root_once : (f : Files) (s t : StateView) → RootApart f → Valid s → Va
 root_once f s t apart a b x y = go x y
   where
     go : IsRootOf (f root) s → IsRootOf (f root) t → s ≡ t
-    go (inl x) (inl y) = let same : Some (root_text t) ≡ Some (root_text s) = sym y ∙ x in let one : root_text t ≡ root_text s = cc in one_state (root_text s) s t (apart (root_text s) x) a b refl one
+    go (inl x) (inl y) = let same : Some (root_text t) ≡ Some (root_text s) = sym y ∙ x in let one : root_text t ≡ root_text s = cc in one_state s t (apart (root_text s) x) a b (sym one)
     go (inl x) (inr y) = absurd (let no : Some (root_text s) ≡ None = sym x ∙ y.0 in cc)
     go (inr x) (inl y) = absurd (let no : Some (root_text t) ≡ None = sym y ∙ x.0 in cc)
     go (inr x) (inr y) = x.1 ∙ sym y.1

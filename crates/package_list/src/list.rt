@@ -96,14 +96,6 @@ impl PackageList {
         })
     }
 
-    /// The list of these packages, which stand in their order, no two of them equal. They are shared.
-    pub fn from_ascending(packages: Vec<Rc<Package>>) -> PackageList
-        requires { IsAscending package_cmp (map rc_value packages.items) }
-        ensures { result ≡ map rc_value packages.items }
-    {
-        PackageList { items: packages }
-    }
-
     /// The number of members.
     pub fn len(&self) -> usize
         ensures { result ≡ length self.now }
