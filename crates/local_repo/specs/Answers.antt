@@ -151,6 +151,15 @@ pub record AddsOne (inbox : Option Files) (Needs : Files → Type 0) (result : R
   pub fills : ForSome inbox (λ files. Fills files l (extended ops l))
   pub body : IfOk result (λ p. ForSome inbox (λ files. IsNamed (live_of l) → DigestsApart (live_of l) files → Needs (live_of l) → HasBody (live_of (extended ops l)) p))
 
+-- The pool has grown by the bodies of packages, or of some of them where the call broke off.
+pub record AddsAll (inbox : Option Files) (known : List Card) (result : Result (List Card) UpdateFault) (old new : StageState) (l : Log) (ops : List Op) : Type 0 where
+  pub grows : PoolGrows l ops
+  pub marked : IsMarked old new ops
+  pub step : IsInStep old l → IsInStep new (extended ops l)
+  pub fills : ForSome inbox (λ files. Fills files l (extended ops l))
+  pub bodies : IfOk result (λ list. ForSome inbox (λ files.
+      IsNamed (live_of l) → DigestsApart (live_of l) files → All (HasBody (live_of l)) known → All (HasBody (live_of (extended ops l))) list))
+
 -- The pool has grown by the bodies of what arrived, or of some of it where the call broke off.
 pub record Adds (inbox : Option Files) (known : List Card) (result : Result Arrived UpdateFault) (old new : StageState) (l : Log) (ops : List Op) : Type 0 where
   pub grows : PoolGrows l ops
