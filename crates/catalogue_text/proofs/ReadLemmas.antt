@@ -1,11 +1,13 @@
 -- The reading of each part: what is read, and where it stops.
-use Rattle.std.proofs.Common.{◌≡◌, ◌⊎◌, inl, inr, ℕ, zero, suc, ◌+◌, ◌<◌, ◌≤◌, ◌^◌, ◌↔◌, Bool, true, false, cond, if◌then◌else◌, List, [], ◌∷◌, ◌++◌, length, map, get_or, Option, Some, None, IsTrue, IsFalse, All, codes, refl, sym, ap, ◌∙◌, subst, arith, append-nil, append_assoc, length-append, Ordering, Less, Equal, Greater}
+use Rattle.std.proofs.Common.{◌≡◌, ◌⊎◌, inl, inr, ℕ, zero, suc, ◌+◌, ◌<◌, ◌≤◌, ◌^◌, ◌↔◌, Bool, true, false, cond, if◌then◌else◌, List, [], ◌∷◌, ◌++◌, length, map, get_or, Option, Some, None, Result, Ok, Err, IfSome, IsTrue, IsFalse, All, codes, refl, sym, ap, ◌∙◌, subst, arith, append-nil, append_assoc, length-append, Ordering, Less, Equal, Greater}
 use Rattle.std.specs.Prelude.{slice_get, MatchBool}
 use Rattle.std.specs.List.{flat_map}
+use Rattle.std.specs.Result.{IfOk, IfErr}
 use Rattle.std.specs.Fmt.{decimal}
 use Rattle.std.specs.Ordering.{is_lt}
 use Rattle.std.proofs.lemmas.Bool.{true≢false}
 use Rattle.std.proofs.lemmas.Cmp.{nat_list_cmp_total}
+use Rattle.std.proofs.lemmas.List.{append_cancel_left}
 use Rattle.std.proofs.lemmas.List.Concat.{flat_map-append, flat_map_single}
 use Rattle.package_core.specs.Card.{Card}
 use Rattle.package_core.specs.Order.{package_cmp}
@@ -15,15 +17,17 @@ use Rattle.machine_state.specs.declared.limit.Limit.TheVariants.{Repos, Packages
 use Rattle.machine_state.specs.declared.repo.Repo.{Repo}
 use Rattle.machine_state.specs.Ascending as names
 use Rattle.machine_state.specs.Limits.{limit_number}
-use Rattle.machine_state.specs.State.{name_cmp, repo_cmp, IsKnown}
+use Rattle.machine_state.specs.State.{name_cmp, repo_cmp, IsKnown, IsLineText}
 use Rattle.catalogue_text.specs.Lines.{IsLine}
 use Rattle.catalogue_text.specs.Pieces.{Piece, alone, packed, Begins, Takes}
-use Rattle.catalogue_text.specs.Root.{id_of, set_line, known_line, repos_line, set_pieces, known_pieces, repos_pieces, repo_pieces, last_pieces}
-use Rattle.catalogue_text.specs.Grammar.{Line, Series, Count, NextPackage, NextMember, MayJoin, SetPart, NextRepo, KnownPart, ReposPart, LastPart, IsWithinLimits}
-use Rattle.catalogue_text.specs.Reading.{NoLine, ReadsLine, Stops, Always, Each, ReadsSeries, ReadsPart, GoodSet, GoodRepo, GoodKnown, GoodRepos, PlaceIs, IdsApart, AddsMember}
+use Rattle.catalogue_text.specs.Root.{id_of, set_line, known_line, repos_line, name_line, comment_line, distribution_line, component_line, set_pieces, known_pieces, repos_pieces, repo_pieces, last_pieces}
+use Rattle.catalogue_text.specs.Grammar.{IsNext, Line, Series, Count, NextPackage, NextMember, MayJoin, SetPart, NextRepo, KnownPart, ReposPart, LastPart, IsWithinLimits}
+use Rattle.catalogue_text.specs.declared.stop.Stop.{Stop}
+use Rattle.catalogue_text.specs.declared.stop.Stop.TheVariants.{Before, OutOfMemory}
+use Rattle.catalogue_text.specs.Reading.{IfBefore, NoLine, ReadsLine, Stops, Always, Each, ReadsSeries, ReadsPart, GoodSet, GoodRepo, GoodKnown, GoodRepos, PlaceIs, IdsApart, AddsMember}
 use Rattle.catalogue_text.proofs.LineLemmas.{line_unique, same_line}
-use Rattle.catalogue_text.proofs.Parts.{IsPart, IsTold, IsOther, takes_both, line_of, stops_line, stops_first, stops_then, stops_series, series_part, each_push}
-use Rattle.catalogue_text.proofs.RootParts.{Any, package_pieces, package_part, package_told, fixed_part, fixed_told, count_part, count_told, member_pieces, member_part, member_told, repo_part, repo_told}
+use Rattle.catalogue_text.proofs.Parts.{IsPart, IsTold, IsOther, takes_both, line_of, stops_line, stops_first, stops_then, stops_as, stops_series, series_part}
+use Rattle.catalogue_text.proofs.RootParts.{Any, package_pieces, package_part, package_told, fixed_part, fixed_told, count_part, count_told, member_pieces, member_part, member_told, repo_part, repo_told, IsDistribution, IsComponent, FromSet, FromComponent, FromDistribution, FromComment, set_of, component_of, distribution_of, comment_of, GoodFromSet, GoodFromComponent, GoodFromDistribution, GoodFromComment, made, set_part, from_set, from_component, from_distribution, from_comment, name_part, name_told, comment_part, comment_told, distribution_part, distribution_told, component_part, component_told, KnownSeries, counted_known, ReposSeries, repos_of, GoodCounted, counted_repos, EndLine, FromPublications, end_part, end_told, publications_part}
 use Rattle.catalogue_text.proofs.PlainLemmas.{known_other, repos_other, set_other}
 use Rattle.catalogue_text.proofs.ValidLemmas.{NamesBefore, all_cons, all_tail, all_none, known_at, place_at}
 
@@ -180,3 +184,145 @@ follows_last lt o done front last name a e h k = (
     less Less h = refl
     less Equal h = cc
     less Greater h = cc
+
+-- ---- what a result says
+pub if_ok : {X E : Type 0} (P Q : X → Type 0) → ((x : X) → P x → Q x) → (r : Result X E) → IfOk r P → IfOk r Q
+if_ok P Q f (Ok x) h = f x h
+if_ok P Q f (Err e) h = tt
+
+pub if_before : (P Q : ℕ → Type 0) → ((n : ℕ) → P n → Q n) → (s : Stop) → IfBefore s P → IfBefore s Q
+if_before P Q f (Before n) h = f n h
+if_before P Q f OutOfMemory h = tt
+
+pub if_stop : {X : Type 0} (P Q : ℕ → Type 0) → ((n : ℕ) → P n → Q n) → (r : Result X Stop) → IfErr r (λ s. IfBefore s P) → IfErr r (λ s. IfBefore s Q)
+if_stop P Q f (Ok x) h = tt
+if_stop P Q f (Err e) h = if_before P Q f e h
+
+-- ---- the known packages
+pub known_first : (text : List ℕ) → ((behind : List ℕ) → IsLine text (codes "aptly root 0") behind → ⊥) → Stops KnownPart text (length text)
+unfolding KnownPart
+known_first text none = fixed_in (codes "aptly root 0") refl KnownSeries _ _ counted_known text none
+
+pub known_count : (text rest : List ℕ) (most : ℕ) → IsLine text (codes "aptly root 0") rest → most ≡ limit_number Known → NoLine known_line (λ n. n ≤ most) rest → Stops KnownPart text (length rest)
+unfolding KnownPart
+known_count text rest most l e none =
+    fixed_up (codes "aptly root 0") refl KnownSeries _ _ counted_known text rest (length rest) l
+    (counted_in (codes "known ") (limit_number Known) known_other (omega arith) NextPackage package_pieces (AllLess package_cmp) package_part rest most e none)
+
+pub known_rest : (text rest mid : List ℕ) (n most left : ℕ) → IsLine text (codes "aptly root 0") rest → most ≡ limit_number Known → n ≤ most → IsLine rest (known_line n) mid → Stops (Series n NextPackage []) mid left → Stops KnownPart text left
+unfolding KnownPart
+known_rest text rest mid n most left l e few m s =
+    fixed_up (codes "aptly root 0") refl KnownSeries _ _ counted_known text rest left l
+    (counted_up (codes "known ") (limit_number Known) known_other (omega arith) NextPackage package_pieces (AllLess package_cmp) package_part rest mid n left (omega arith) m s)
+
+pub known_read : (text rest mid : List ℕ) (n most : ℕ) → IsLine text (codes "aptly root 0") rest → most ≡ limit_number Known → n ≤ most → IsLine rest (known_line n) mid → (xs : List Card) (behind : List ℕ) → ReadsSeries package_pieces (AllLess package_cmp) n mid xs behind → ReadsPart known_pieces GoodKnown text xs behind
+unfolding known_pieces
+known_read text rest mid n most l e few m xs behind r = record {
+  good = (let c = r.counted in omega arith, r.good);
+  takes = (rest, l, (mid, subst (λ (k : ℕ). IsLine rest (known_line k) mid) (sym r.counted) m, subst (λ (ys : List Piece). Takes mid ys behind) (flat_map_single packed xs) r.takes));
+}
+
+-- ---- a list
+module _ (known : List Card) where
+  pub set_count : (text : List ℕ) (most : ℕ) → most ≡ limit_number Packages → NoLine set_line (λ n. n ≤ most) text → Stops (SetPart known) text (length text)
+  set_count text most e none = counted_in (codes "set ") (limit_number Packages) set_other (omega arith) (NextMember known) member_pieces (MayJoin known) (member_part known) text most e none
+
+  pub set_rest : (text mid : List ℕ) (n most left : ℕ) → most ≡ limit_number Packages → n ≤ most → IsLine text (set_line n) mid → Stops (Series n (NextMember known) []) mid left → Stops (SetPart known) text left
+  set_rest text mid n most left e few m s = counted_up (codes "set ") (limit_number Packages) set_other (omega arith) (NextMember known) member_pieces (MayJoin known) (member_part known) text mid n left (omega arith) m s
+
+  pub set_read : (text mid : List ℕ) (n most : ℕ) → most ≡ limit_number Packages → n ≤ most → IsLine text (set_line n) mid → (xs : List Card) (behind : List ℕ) → ReadsSeries member_pieces (MayJoin known) n mid xs behind → ReadsPart set_pieces (GoodSet known) text xs behind
+  unfolding set_pieces
+  set_read text mid n most e few m xs behind r = record {
+    good = (let c = r.counted in omega arith, r.good);
+    takes = (mid, subst (λ (k : ℕ). IsLine text (set_line k) mid) (sym r.counted) m, subst (λ (ys : List Piece). Takes mid ys behind) (flat_map_single (λ p. alone (id_of p)) xs) r.takes);
+  }
+
+  -- ---- the repositories
+  pub repos_first : (text : List ℕ) → ((behind : List ℕ) → IsLine text (codes "mirrors 0") behind → ⊥) → Stops (ReposPart known) text (length text)
+  unfolding ReposPart
+  repos_first text none = fixed_in (codes "mirrors 0") refl (ReposSeries known) _ _ (counted_repos known) text none
+
+  pub repos_count : (text rest : List ℕ) (most : ℕ) → IsLine text (codes "mirrors 0") rest → most ≡ limit_number Repos → NoLine repos_line (λ n. n ≤ most) rest → Stops (ReposPart known) text (length rest)
+  unfolding ReposPart
+  repos_count text rest most l e none =
+      fixed_up (codes "mirrors 0") refl (ReposSeries known) _ _ (counted_repos known) text rest (length rest) l
+      (counted_in (codes "repos ") (limit_number Repos) repos_other (omega arith) (NextRepo known) repo_pieces (GoodRepo known) (repo_part known) rest most e none)
+
+  pub repos_rest : (text rest mid : List ℕ) (n most left : ℕ) → IsLine text (codes "mirrors 0") rest → most ≡ limit_number Repos → n ≤ most → IsLine rest (repos_line n) mid → Stops (Series n (NextRepo known) []) mid left → Stops (ReposPart known) text left
+  unfolding ReposPart
+  repos_rest text rest mid n most left l e few m s =
+      fixed_up (codes "mirrors 0") refl (ReposSeries known) _ _ (counted_repos known) text rest left l
+      (counted_up (codes "repos ") (limit_number Repos) repos_other (omega arith) (NextRepo known) repo_pieces (GoodRepo known) (repo_part known) rest mid n left (omega arith) m s)
+
+  pub repos_read : (text rest mid : List ℕ) (n most : ℕ) → IsLine text (codes "mirrors 0") rest → most ≡ limit_number Repos → n ≤ most → IsLine rest (repos_line n) mid → (xs : List Repo) (behind : List ℕ) → ReadsSeries repo_pieces (GoodRepo known) n mid xs behind → ReadsPart repos_pieces (GoodRepos known) text xs behind
+  unfolding repos_pieces
+  repos_read text rest mid n most l e few m xs behind r = record {
+    good = (let c = r.counted in omega arith, r.good);
+    takes = (rest, l, (mid, subst (λ (k : ℕ). IsLine rest (repos_line k) mid) (sym r.counted) m, r.takes));
+  }
+
+  -- ---- the end
+  pub last_first : (text : List ℕ) → ((behind : List ℕ) → IsLine text (codes "snapshots 0") behind → ⊥) → Stops (LastPart known) text (length text)
+  unfolding LastPart
+  last_first text none = fixed_in (codes "snapshots 0") refl (FromPublications known) _ _ (publications_part known) text none
+
+  pub last_second : (text rest : List ℕ) → IsLine text (codes "snapshots 0") rest → ((behind : List ℕ) → IsLine rest (codes "publications 0") behind → ⊥) → Stops (LastPart known) text (length rest)
+  unfolding LastPart
+  last_second text rest l none =
+      fixed_up (codes "snapshots 0") refl (FromPublications known) _ _ (publications_part known) text rest (length rest) l
+      (fixed_in (codes "publications 0") refl (EndLine known) _ _ (end_part known) rest none)
+
+  pub last_third : (text rest mid : List ℕ) → IsLine text (codes "snapshots 0") rest → IsLine rest (codes "publications 0") mid → ((behind : List ℕ) → IsWithinLimits known → IsLine mid (codes "end") behind → ⊥) → Stops (LastPart known) text (length mid)
+  unfolding LastPart
+  last_third text rest mid l m none =
+      fixed_up (codes "snapshots 0") refl (FromPublications known) _ _ (publications_part known) text rest (length mid) l
+      (fixed_up (codes "publications 0") refl (EndLine known) _ _ (end_part known) rest mid (length mid) m
+      (stops_line {A = Unit {0}} (λ u. codes "end") (λ u. IsWithinLimits known) mid (λ u behind g k. none behind g k)))
+
+  pub last_read : (text rest mid behind : List ℕ) → IsLine text (codes "snapshots 0") rest → IsLine rest (codes "publications 0") mid → IsLine mid (codes "end") behind → IsWithinLimits known → ReadsPart {A = Unit {0}} (λ u. last_pieces) (λ u. IsWithinLimits known) text tt behind
+  unfolding last_pieces
+  last_read text rest mid behind l m n g = record { good = g; takes = (rest, l, (mid, m, (behind, n, refl))) }
+
+-- ---- a repository
+module _ (known : List Card) (before : List Repo) where
+  pub at_name : (text : List ℕ) (left : ℕ) → Stops (Line name_line (IsNext before)) text left → Stops (NextRepo known before) text left
+  unfolding NextRepo
+  at_name text left s = stops_first (Line name_line (IsNext before)) (FromComment known before) (line_of name_line) (comment_of known before) (IsNext before) (GoodFromComment known before) (λ repo. repo.name) (name_part known before) (from_comment known before) text left s
+
+  pub past_name : (text rest : List ℕ) (left : ℕ) (n : List ℕ) → IsNext before n → IsLine text (name_line n) rest → Stops (FromComment known before n) rest left → Stops (NextRepo known before) text left
+  unfolding NextRepo
+  past_name text rest left n g l s = stops_then (Line name_line (IsNext before)) (FromComment known before) (line_of name_line) (comment_of known before) (IsNext before) (GoodFromComment known before) (λ repo. repo.name) (name_part known before) (from_comment known before) (name_told known before) text rest left n g (rest, l, refl) s
+
+  pub at_comment : (n text : List ℕ) (left : ℕ) → Stops (Line comment_line IsLineText) text left → Stops (FromComment known before n) text left
+  at_comment n text left s = stops_first (Line comment_line IsLineText) (FromDistribution known before n) (line_of comment_line) (distribution_of known before) IsLineText (GoodFromDistribution known before n) (λ repo. repo.comment) (comment_part known before) (from_distribution known before n) text left s
+
+  pub past_comment : (n text rest : List ℕ) (left : ℕ) (c : List ℕ) → IsLineText c → IsLine text (comment_line c) rest → Stops (FromDistribution known before n c) rest left → Stops (FromComment known before n) text left
+  past_comment n text rest left c g l s = stops_then (Line comment_line IsLineText) (FromDistribution known before n) (line_of comment_line) (distribution_of known before) IsLineText (GoodFromDistribution known before n) (λ repo. repo.comment) (comment_part known before) (from_distribution known before n) (comment_told known before) text rest left c g (rest, l, refl) s
+
+  pub at_distribution : (n c text : List ℕ) (left : ℕ) → Stops (Line distribution_line IsDistribution) text left → Stops (FromDistribution known before n c) text left
+  at_distribution n c text left s = stops_first (Line distribution_line IsDistribution) (FromComponent known before n c) (line_of distribution_line) (component_of known before) IsDistribution (GoodFromComponent known before n c) (λ repo. repo.distribution) (distribution_part known before) (from_component known before n c) text left s
+
+  pub past_distribution : (n c text rest : List ℕ) (left : ℕ) (d : Option (List ℕ)) → IsDistribution d → IsLine text (distribution_line d) rest → Stops (FromComponent known before n c d) rest left → Stops (FromDistribution known before n c) text left
+  past_distribution n c text rest left d g l s = stops_then (Line distribution_line IsDistribution) (FromComponent known before n c) (line_of distribution_line) (component_of known before) IsDistribution (GoodFromComponent known before n c) (λ repo. repo.distribution) (distribution_part known before) (from_component known before n c) (distribution_told known before) text rest left d g (rest, l, refl) s
+
+  pub at_component : (n c : List ℕ) (d : Option (List ℕ)) (text : List ℕ) (left : ℕ) → Stops (Line component_line IsComponent) text left → Stops (FromComponent known before n c d) text left
+  at_component n c d text left s = stops_first (Line component_line IsComponent) (FromSet known before n c d) (line_of component_line) (set_of known before) IsComponent (GoodFromSet known before n c d) (λ repo. repo.component) (component_part known before) (from_set known before n c d) text left s
+
+  pub past_component : (n c : List ℕ) (d : Option (List ℕ)) (text rest : List ℕ) (left : ℕ) (k : List ℕ) → IsComponent k → IsLine text (component_line k) rest → Stops (FromSet known before n c d k) rest left → Stops (FromComponent known before n c d) text left
+  past_component n c d text rest left k g l s = stops_then (Line component_line IsComponent) (FromSet known before n c d) (line_of component_line) (set_of known before) IsComponent (GoodFromSet known before n c d) (λ repo. repo.component) (component_part known before) (from_set known before n c d) (component_told known before) text rest left k g (rest, l, refl) s
+
+  pub at_set : (n c : List ℕ) (d : Option (List ℕ)) (k text : List ℕ) (left : ℕ) → Stops (SetPart known) text left → Stops (FromSet known before n c d k) text left
+  at_set n c d k text left s = stops_as (SetPart known) set_pieces (GoodSet known) (made n c d k) (λ repo. repo.list) (set_part known) text left s
+
+  pub repo_read : (text r1 r2 r3 r4 rest n c : List ℕ) (d : Option (List ℕ)) (k : List ℕ) (list : List Card) → ReadsLine name_line (IsNext before) text n r1 → ReadsLine comment_line IsLineText r1 c r2 → ReadsLine distribution_line IsDistribution r2 d r3 → ReadsLine component_line IsComponent r3 k r4 → ReadsPart set_pieces (GoodSet known) r4 list rest
+      → ReadsPart repo_pieces (GoodRepo known before) text (made n c d k list) rest
+  unfolding repo_pieces
+  repo_read text r1 r2 r3 r4 rest n c d k list a b e f s = record {
+    good = record { name = a.0; comment = b.0; distribution = e.0; component = f.0; list = s.good };
+    takes = (r1, a.1, (r2, b.1, (r3, e.1, (r4, f.1, s.takes))));
+  }
+
+  pub not_next : (text rest name : List ℕ) (follows : Bool) → follows ≡ false → (IsTrue follows ↔ NamesBefore before name) → IsLine text (name_line name) rest → NoLine name_line (IsNext before) text
+  not_next text rest name follows f h l a behind g m =
+      let same : name ≡ a = append_cancel_left (codes "repo ") name a (line_unique text (name_line name) (name_line a) rest behind l m).0 in
+      true≢false (sym (h.1 (subst (NamesBefore before) (sym same) g.1)) ∙ f)

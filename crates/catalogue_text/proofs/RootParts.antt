@@ -72,10 +72,10 @@ pub count_told : (key : List ℕ) (most : ℕ) → most < 2 ^ 64 → IsTold (Cou
 count_told key most b = line_told (λ n. key ++ decimal n) (λ n. n ≤ most) (λ m n p q e. counts_apart key most m n b p q e)
 
 -- ---- the known packages
-abbrev KnownSeries : (List Card → List Piece → Type 0) → List Piece → Type 0
+abbrev pub KnownSeries : (List Card → List Piece → Type 0) → List Piece → Type 0
 KnownSeries = λ K. Count known_line (limit_number Known) (λ n. Series n NextPackage [] K)
 
-abbrev GoodOf : {X : Type 0} → (List X → X → Type 0) → ℕ → List X → Type 0
+abbrev pub GoodOf : {X : Type 0} → (List X → X → Type 0) → ℕ → List X → Type 0
 GoodOf Good n xs = (n ≡ length xs) × Each Good [] xs
 
 known_series : (n : ℕ) → IsPart (Series n NextPackage []) (flat_map package_pieces) (GoodOf (AllLess package_cmp) n)
@@ -84,7 +84,7 @@ known_series n = series_part NextPackage package_pieces (AllLess package_cmp) pa
 known_series_told : (n : ℕ) → IsTold (Series n NextPackage []) (flat_map package_pieces) (GoodOf (AllLess package_cmp) n)
 known_series_told n = series_told NextPackage package_pieces (AllLess package_cmp) package_part package_told n
 
-counted_known : IsPart KnownSeries (λ xs. line_of known_line (length xs) ++ flat_map package_pieces xs) (λ xs. (length xs ≤ limit_number Known) × GoodOf (AllLess package_cmp) (length xs) xs)
+pub counted_known : IsPart KnownSeries (λ xs. line_of known_line (length xs) ++ flat_map package_pieces xs) (λ xs. (length xs ≤ limit_number Known) × GoodOf (AllLess package_cmp) (length xs) xs)
 counted_known = both_part (Count known_line (limit_number Known)) (λ n. Series n NextPackage []) (line_of known_line) (flat_map package_pieces) (λ n. n ≤ limit_number Known) (GoodOf (AllLess package_cmp)) length
     (count_part known_line (limit_number Known) known_other) known_series
 
@@ -189,34 +189,34 @@ module _ (known : List Card) (before : List Repo) where
   abbrev pub FromComment : List ℕ → (Repo → List Piece → Type 0) → List Piece → Type 0
   FromComment n K = Line comment_line IsLineText (λ c. FromDistribution n c K)
 
-  abbrev set_of : Repo → List Piece
+  abbrev pub set_of : Repo → List Piece
   set_of repo = set_pieces repo.list
 
-  abbrev component_of : Repo → List Piece
+  abbrev pub component_of : Repo → List Piece
   component_of repo = line_of component_line repo.component ++ set_of repo
 
-  abbrev distribution_of : Repo → List Piece
+  abbrev pub distribution_of : Repo → List Piece
   distribution_of repo = line_of distribution_line repo.distribution ++ component_of repo
 
-  abbrev comment_of : Repo → List Piece
+  abbrev pub comment_of : Repo → List Piece
   comment_of repo = line_of comment_line repo.comment ++ distribution_of repo
 
-  abbrev name_of : Repo → List Piece
+  abbrev pub name_of : Repo → List Piece
   name_of repo = line_of name_line repo.name ++ comment_of repo
 
-  abbrev GoodFromSet : List ℕ → List ℕ → Option (List ℕ) → List ℕ → Repo → Type 0
+  abbrev pub GoodFromSet : List ℕ → List ℕ → Option (List ℕ) → List ℕ → Repo → Type 0
   GoodFromSet n c d k repo = GoodSet known repo.list × (made n c d k repo.list ≡ repo)
 
-  abbrev GoodFromComponent : List ℕ → List ℕ → Option (List ℕ) → Repo → Type 0
+  abbrev pub GoodFromComponent : List ℕ → List ℕ → Option (List ℕ) → Repo → Type 0
   GoodFromComponent n c d repo = IsComponent repo.component × GoodFromSet n c d repo.component repo
 
-  abbrev GoodFromDistribution : List ℕ → List ℕ → Repo → Type 0
+  abbrev pub GoodFromDistribution : List ℕ → List ℕ → Repo → Type 0
   GoodFromDistribution n c repo = IsDistribution repo.distribution × GoodFromComponent n c repo.distribution repo
 
-  abbrev GoodFromComment : List ℕ → Repo → Type 0
+  abbrev pub GoodFromComment : List ℕ → Repo → Type 0
   GoodFromComment n repo = IsLineText repo.comment × GoodFromDistribution n repo.comment repo
 
-  abbrev GoodFromName : Repo → Type 0
+  abbrev pub GoodFromName : Repo → Type 0
   GoodFromName repo = IsNext before repo.name × GoodFromComment repo.name repo
 
   good_repo : (repo : Repo) → GoodRepo known before repo → GoodFromName repo
@@ -286,13 +286,13 @@ module _ (known : List Card) where
   abbrev pub ReposSeries : (List Repo → List Piece → Type 0) → List Piece → Type 0
   ReposSeries K = Count repos_line (limit_number Repos) (λ n. Series n (NextRepo known) [] K)
 
-  abbrev repos_of : List Repo → List Piece
+  abbrev pub repos_of : List Repo → List Piece
   repos_of xs = line_of repos_line (length xs) ++ flat_map repo_pieces xs
 
-  abbrev GoodCounted : List Repo → Type 0
+  abbrev pub GoodCounted : List Repo → Type 0
   GoodCounted xs = (length xs ≤ limit_number Repos) × GoodOf (GoodRepo known) (length xs) xs
 
-  counted_repos : IsPart ReposSeries repos_of GoodCounted
+  pub counted_repos : IsPart ReposSeries repos_of GoodCounted
   counted_repos = both_part (Count repos_line (limit_number Repos)) (λ n. Series n (NextRepo known) []) (line_of repos_line) (flat_map repo_pieces) (λ n. n ≤ limit_number Repos) (GoodOf (GoodRepo known)) length
       (count_part repos_line (limit_number Repos) repos_other) (series_part (NextRepo known) repo_pieces (GoodRepo known) (repo_part known))
 
@@ -331,7 +331,7 @@ module _ (known : List Card) where
   pub publications_part : IsPart FromPublications (λ u. alone (codes "publications 0") ∷ alone (codes "end") ∷ []) (λ u. Unit {0} × IsWithinLimits known)
   publications_part = both_part (Line {A = Unit {0}} (λ u. codes "publications 0") Any) (λ u. EndLine) (λ u. alone (codes "publications 0") ∷ []) (λ u. alone (codes "end") ∷ []) Any (λ u v. IsWithinLimits known) (λ u. tt) (fixed_part (codes "publications 0") refl) (λ u. end_part)
 
-  publications_told : IsTold FromPublications (λ u. alone (codes "publications 0") ∷ alone (codes "end") ∷ []) (λ u. Unit {0} × IsWithinLimits known)
+  pub publications_told : IsTold FromPublications (λ u. alone (codes "publications 0") ∷ alone (codes "end") ∷ []) (λ u. Unit {0} × IsWithinLimits known)
   publications_told = both_told (Line {A = Unit {0}} (λ u. codes "publications 0") Any) (λ u. EndLine) (λ u. alone (codes "publications 0") ∷ []) (λ u. alone (codes "end") ∷ []) Any (λ u v. IsWithinLimits known) (λ u. tt) (fixed_part (codes "publications 0") refl) (λ u. end_part) (fixed_told (codes "publications 0")) (λ u. end_told)
 
   pub last_part : IsPart (LastPart known) (λ u. last_pieces) (λ u. IsWithinLimits known)
@@ -354,10 +354,10 @@ FromRepos known K = ReposPart known (λ repos. LastPart known (λ u. K (state_of
 abbrev pub FromLast : List Card → List Repo → (StateView → List Piece → Type 0) → List Piece → Type 0
 FromLast known repos K = LastPart known (λ u. K (state_of known repos))
 
-abbrev GoodFromLast : List Card → List Repo → StateView → Type 0
+abbrev pub GoodFromLast : List Card → List Repo → StateView → Type 0
 GoodFromLast known repos state = IsWithinLimits known × (state_of known repos ≡ state)
 
-abbrev GoodFromRepos : List Card → StateView → Type 0
+abbrev pub GoodFromRepos : List Card → StateView → Type 0
 GoodFromRepos known state = GoodRepos known state.repos × GoodFromLast known state.repos state
 
 abbrev pub GoodState : StateView → Type 0

@@ -36,8 +36,14 @@ fn read_state(alloc: Global, bytes: &[u8]) -> Result<State, Stop>
     ensures found { IfOk result (λ state. Valid state × (bytes.now ≡ root_of state)) }
     ensures stops { IfErr result (λ stop. IfBefore stop (λ left. TextsApart bytes.now → StopsRoot bytes.now left)) }
 {
-    let (known, rest) = read_known(alloc, bytes)?;
-    let (repos, rest) = read_repos(alloc, rest, &known)?;
+    let (known, rest) = match read_known(alloc, bytes) {
+        Ok(head) => head,
+        Err(stop) => return Err(stop),
+    };
+    let (repos, rest) = match read_repos(alloc, rest, &known) {
+        Ok(body) => body,
+        Err(stop) => return Err(stop),
+    };
     let rest = match read_last(rest, &known) {
         Ok(rest) => rest,
         Err(left) => return Err(Stop::Before(left)),

@@ -54,7 +54,10 @@ fn read_repo<'a>(
     let Some((component, rest)) = component_line(alloc, behind)? else {
         return Err(Stop::Before(behind.len()));
     };
-    let (list, rest) = read_set(alloc, rest, known)?;
+    let (list, rest) = match read_set(alloc, rest, known) {
+        Ok(set) => set,
+        Err(stop) => return Err(stop),
+    };
     let repo = Repo {
         name,
         comment,
@@ -79,9 +82,13 @@ fn read_each<'a>(
     let mut repos = Vec::new(alloc);
     let mut rest = text;
     for _read in 0..count {
-        let (repo, behind) = read_repo(alloc, rest, known, &repos)?;
-        repos.push(repo)?;
-        rest = behind;
+        match read_repo(alloc, rest, known, &repos) {
+            Err(stop) => return Err(stop),
+            Ok((repo, behind)) => {
+                repos.push(repo)?;
+                rest = behind;
+            }
+        }
     }
     Ok((repos, rest))
 }
