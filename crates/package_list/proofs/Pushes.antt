@@ -53,7 +53,7 @@ drop-length (x ∷ xs) = drop-length xs
 -- who is behind all members clashes with one exactly where the last has the triple
 pub clash_last : (xs : List Package) (p : Package) → IsAscending package_cmp xs → AllLess package_cmp xs p → clashes xs p ≡ last_is (λ q. same_triple q p) xs
 clash_last xs p a h =
-    clash_beside xs (length xs) (length xs) p a (subst (λ (l : List Package). AllLess package_cmp l p) (sym (take-length xs)) h) (subst (IsBelow package_cmp p) (sym (drop-length xs)) tt) refl
+    clash_beside xs (length xs) p a (subst (λ (l : List Package). AllLess package_cmp l p) (sym (take-length xs)) h) (subst (IsBelow package_cmp p) (sym (drop-length xs)) tt)
     ∙ (λ i. last_is (λ q. same_triple q p) (take-length xs i) || first (drop-length xs i))
     ∙ or_false (last_is (λ q. same_triple q p) xs)
   where
