@@ -1,51 +1,45 @@
 -- From the opening and the run to the whole call.
-use Rattle.std.proofs.Common.{◌≡◌, ◌⊎◌, inl, inr, List, ℕ, true, false, [], ◌∷◌, ◌++◌, take, drop, Option, Some, None, Result, Ok, Err, OnOk, refl, sym, ◌∙◌, ap, subst, append-nil}
+use Rattle.std.proofs.Common.{◌≡◌, ◌⊎◌, inl, inr, List, ℕ, true, false, [], ◌∷◌, ◌++◌, take, drop, Option, Some, None, IsTrue, IsFalse, Result, Ok, Err, OnOk, refl, sym, ◌∙◌, ap, subst, append-nil}
 use Rattle.std.proofs.lemmas.List.{take-append-drop}
 use Rattle.ap_host.specs.declared.host.Op.{Op}
 use Rattle.ap_host.specs.declared.host.Op.TheVariants.{Barrier, Say, Claim}
 use Rattle.ap_host.specs.declared.host.HostErr.{HostErr}
 use Rattle.ap_host.specs.declared.host.HostErr.TheVariants.{Failed, OutOfMemory as NoMemory}
-use Rattle.ap_host.specs.Disk.{Files, Log, extended, live_of, said}
+use Rattle.ap_host.specs.Disk.{Path, Files, Log, extended, live_of, said}
 use Rattle.ap_host.specs.Calls.{Did}
 use Rattle.ap_host.specs.Changes.{EachOp}
 use Rattle.ap_host.proofs.ChangeLemmas.{EachOp-append}
 use Rattle.ap_host.proofs.DiskLemmas.{extended-append}
-use Rattle.run_model.specs.Run.{AtRest, IsFront}
+use Rattle.run_model.specs.Run.{AtRest, IsFront, Ran}
 use Rattle.run_model.specs.Call.{Entry, OpenedWhole, RanAll}
 use Rattle.run_model.proofs.Joins.{said-append}
 use Rattle.run_model.proofs.Openings.{first, live_first, durable_first, opened_none, opened_claimed, opened_more, opened_whole}
 use Rattle.run_model.proofs.Opens.{opened_then_ran, broke_opening}
 use Rattle.aptly_core.specs.declared.catalogue_root.LoadFault.{LoadFault}
 use Rattle.aptly_core.specs.declared.catalogue_root.LoadFault.TheVariants as faults
-use Rattle.aptly_core.specs.declared.command_words.Command.{Command}
+use Rattle.command_words.specs.Plain.{PlainCommand}
+use Rattle.command_words.specs.Commands as words_spell
+use Rattle.command_words.specs.Commands.{IsUsagePlace}
+use Rattle.stage_file.specs.Stage.{StageState, is_staged, IsInStep}
+use Rattle.hash_pool.specs.Names.{is_pooled}
+use Rattle.hash_pool.specs.Growth.{IsOnce}
+use Rattle.hash_pool.proofs.NameLemmas.{pooled_not_staged}
+use Rattle.machine_state.specs.State.{Valid}
+use Rattle.machine_state.specs.Values.{StateView}
+use Rattle.reply_text.specs.Refusals.{usage_line}
+use Rattle.machine_state.specs.declared.refusal.Refusal.{Refusal}
 use Rattle.aptly_core.specs.declared.status.Damage.{Damage}
 use Rattle.aptly_core.specs.declared.status.Status.{Status}
 use Rattle.aptly_core.specs.declared.status.Status.TheVariants.{Done, Refused, Usage, HostFault, InboxFault, OutOfMemory, Damaged, Busy}
 use Rattle.aptly_core.specs.Calls.{GotClaim, CallTo, Called, CalledWith, TellsUsage, SaysUsage, IsSaid, IsRunAnswer, IsDamagedAnswer}
-use Rattle.aptly_core.specs.Machine.{machine, IsWork, IsOpening, IsOnce, Opening, Sets}
-use Rattle.aptly_core.specs.Opens.{OpensTo, RunsClaimed, IsFault, IsSettling, IsClaimedStatus, IsDamagedOrFault}
-use Rattle.aptly_core.specs.Replies.{usage_line}
-use Rattle.aptly_core.specs.Root.{root_text}
-use Rattle.aptly_core.specs.Runs.{RanTo, RunsList, EndsWith, IsRunStatus}
-use Rattle.aptly_core.specs.State.{Valid}
-use Rattle.aptly_core.specs.Store.{root, IsRootOf, Stored, Sound, SoundForNone, IsDamage, Open}
-use Rattle.aptly_core.specs.Values.{StateView}
-use Rattle.aptly_core.specs.Words.{Commands, IsUsagePlace}
+use Rattle.aptly_core.specs.Machine.{machine, store, IsWork, IsOpening, Opening, Sets}
+use Rattle.aptly_core.specs.Opens.{OpensTo, status_of_load, RunsClaimed, IsFault, IsSettling, IsClaimedStatus, IsDamagedOrFault}
+use Rattle.aptly_core.specs.Runs.{MayRun, RanAs, RanTo, RunsList, EndsWith, IsRunStatus}
+use Rattle.aptly_core.specs.Store.{Sound, SoundForNone, IsDamage, Open, RootApart, BodiesApart, Apart}
 use Rattle.aptly_core.proofs.Lawful.{lawful}
-use Rattle.aptly_core.proofs.RunLemmas.{words_each, say_words}
+use Rattle.aptly_core.proofs.LoadLemmas.{sound_once, stored_sound}
+use Rattle.aptly_core.proofs.RunLemmas.{words_each, say_words, grows_in, apart_along}
 use Rattle.aptly_core.proofs.SettleLemmas.{settling_each, settling_work, settling_quiet, settling_target}
-use Rattle.aptly_core.proofs.WholeLemmas.{one_state}
-use Rattle.aptly_core.proofs.WordLemmas.{one_list, no_place}
-
--- files hold one state at most
-pub stored_once : (f : Files) (s t : StateView) → Stored f s → Stored f t → s ≡ t
-stored_once f s t a b = go a.root b.root
-  where
-    go : IsRootOf (f root) s → IsRootOf (f root) t → s ≡ t
-    go (inl x) (inl y) = let same : Some (root_text s) ≡ Some (root_text t) = sym x ∙ y in let one : root_text s ≡ root_text t = cc in one_state s t a.valid b.valid one
-    go (inl x) (inr y) = absurd (let no : Some (root_text s) ≡ None = sym x ∙ y.0 in cc)
-    go (inr x) (inl y) = absurd (let no : Some (root_text t) ≡ None = sym y ∙ x.0 in cc)
-    go (inr x) (inr y) = x.1 ∙ sym y.1
 
 fault_or : (status : Status) → IsFault status → IsDamagedOrFault status
 fault_or HostFault is = tt
@@ -58,27 +52,40 @@ fault_or (Damaged d) is = absurd is
 fault_or Busy is = absurd is
 
 -- the opening of a claimed store broke off
-pub claimed_fault : (cs : List Command) (status : Status) (r : Result StateView LoadFault) (l : Log) (a : List Op) → IsFault status → OpensTo r l a → RunsClaimed cs status l a
-claimed_fault cs status r l a is w = record {
+pub claimed_fault : (input : Option Files) (Told : Option (List ℕ) → Type 0) (cs : List PlainCommand) (status : Status) (r : Result StateView LoadFault) (l : Log) (a : List Op) → IsFault status → OpensTo r l a → RunsClaimed input Told cs status l a
+claimed_fault input Told cs status r l a is w = record {
   work = settling_work a w.settles.only;
   damaged = λ d e. absurd (subst IsFault e is);
   none = λ none. fault_or status is;
   refused = λ q e. absurd (subst IsFault e is);
-  went = λ s durable stands. inl (record { fault = is; only = w.settles.only; grows = w.settles.grows s durable stands });
+  went = λ apart s durable stands. inl (record { fault = is; only = w.settles.only; grows = w.settles.grows s durable stands });
 }
 
-pub claimed_damaged : (cs : List Command) (d : Damage) (l : Log) (a : List Op) → OpensTo (Err (faults.Damaged d)) l a → RunsClaimed cs (Damaged d) l a
-claimed_damaged cs d l a w = record {
+pub claimed_damaged : (input : Option Files) (Told : Option (List ℕ) → Type 0) (cs : List PlainCommand) (d : Damage) (l : Log) (a : List Op) → OpensTo (Err (faults.Damaged d)) l a → RunsClaimed input Told cs (Damaged d) l a
+claimed_damaged input Told cs d l a w = record {
   work = settling_work a w.settles.only;
-  damaged = λ e is. let one : d ≡ e = cc in (w.damaged d refl, w.loads.0, subst (λ (x : Damage). IsDamage (live_of l) x) one w.loads.1);
+  damaged = λ e is. let one : d ≡ e = cc in (w.damaged d refl, λ apart. let x = w.loads apart in (x.0, subst (λ (y : Damage). IsDamage (live_of l) y) one x.1));
   none = λ none. tt;
   refused = λ q e. absurd (cc);
-  went = λ s durable stands. absurd (w.loads.0 s stands.stored);
+  went = λ apart s durable stands. absurd ((w.loads apart.texts).0 s (stored_sound (live_of l) s stands.stored));
 }
 
+-- no state was given
+pub claimed_none : (input : Option Files) (Told : Option (List ℕ) → Type 0) (cs : List PlainCommand) (fault : LoadFault) (status : Status) → status ≡ status_of_load fault → (l : Log) (a : List Op) → OpensTo (Err fault) l a → RunsClaimed input Told cs status l a
+claimed_none input Told cs fault status is l a w = subst (λ (x : Status). RunsClaimed input Told cs x l a) (sym is) (go fault w)
+  where
+    go : (fault : LoadFault) → OpensTo (Err fault) l a → RunsClaimed input Told cs (status_of_load fault) l a
+    go (faults.Damaged d) w = claimed_damaged input Told cs d l a w
+    go faults.HostFault w = claimed_fault input Told cs HostFault (Err faults.HostFault) l a tt w
+    go faults.OutOfMemory w = claimed_fault input Told cs OutOfMemory (Err faults.OutOfMemory) l a tt w
+
+-- what is told apart stays so when staged files are removed
+apart_settled : (input : Option Files) (l : Log) (a : List Op) → ((q : Path) → IsFalse (is_staged q) → live_of (extended a l) q ≡ live_of l q) → BodiesApart input (live_of l) → BodiesApart input (live_of (extended a l))
+apart_settled input l a same apart = apart_along input (live_of l) (live_of (extended a l)) (λ q is. same q (pooled_not_staged q is)) apart
+
 -- it was opened, and then the commands ran
-pub claimed_ran : (cs : List Command) (status : Status) (state : StateView) (l : Log) (a b : List Op) → Valid state → IsRunStatus status → (Valid state → EndsWith state cs status) → OpensTo (Ok state) l a → RunsList state cs status (extended a l) b → RunsClaimed cs status l (a ++ b)
-claimed_ran cs status state l a b valid is comes w y = record {
+pub claimed_ran : (input : Option Files) (Told : Option (List ℕ) → Type 0) (cs : List PlainCommand) (status : Status) (state : StateView) (st : StageState) (l : Log) (a b : List Op) → Valid state → IsRunStatus status → (Valid state → EndsWith input Told state cs status) → OpensTo (Ok state) l a → RunsList input Told state cs st status (extended a l) b → RunsClaimed input Told cs status l (a ++ b)
+claimed_ran input Told cs status state st l a b valid is comes w y = record {
   work = EachOp-append IsWork a b (settling_work a w.settles.only) y.work;
   damaged = λ d e. absurd (subst IsRunStatus e is);
   none = λ none. absurd (none state w.loads);
@@ -87,18 +94,23 @@ claimed_ran cs status state l a b valid is comes w y = record {
       (y.refused valid q e).0,
       said-append a b ∙ ap (λ (x : List ℕ). x ++ said b) (settling_quiet a w.settles.only) ∙ (y.refused valid q e).1,
     ),
-    λ s sound. subst (λ (x : StateView). EndsWith x cs status) (stored_once (live_of l) state s w.loads sound) (comes valid),
+    λ apart s sound. subst (λ (x : StateView). EndsWith input Told x cs status) (sound_once (live_of l) state s apart w.loads sound) (comes valid),
   );
-  went = λ s durable stands. inr (record {
-    opening = a;
-    rest = b;
-    cut = refl;
-    only = w.settles.only;
-    grows = w.settles.grows s durable stands;
-    at_rest = w.settles.rests s durable stands;
-    ran = let same = stored_once (live_of l) state s w.loads stands.stored in
-        subst (λ (x : StateView). RanTo (extended a l) x cs status b) same (y.ran (subst (λ (x : StateView). AtRest machine x (extended a l)) (sym same) (w.settles.rests s durable stands)));
-  });
+  went = λ apart s durable stands.
+      let same : state ≡ s = sound_once (live_of l) state s apart.texts w.loads (stored_sound (live_of l) s stands.stored) in
+      inr (record {
+        opening = a;
+        rest = b;
+        cut = refl;
+        only = w.settles.only;
+        grows = w.settles.grows s durable stands;
+        at_rest = w.settles.rests s durable stands;
+        ran = subst (λ (x : StateView). RanTo input Told (extended a l) x cs status b) same (y.ran (record {
+          rest = subst (λ (x : StateView). AtRest (machine input) x (extended a l)) (sym same) (w.settles.rests s durable stands);
+          step = λ clean. w.settles.durable durable;
+          apart = apart_settled input l a w.settles.same apart.bodies;
+        }));
+      });
 }
 
 -- what keeps to an opening
@@ -111,44 +123,51 @@ opening_more l s a only = record {
 opening_sets : (a : List Op) → EachOp IsSettling a → EachOp (λ op. ¬ Sets op) (Claim true ∷ Barrier ∷ a)
 opening_sets a only = ((λ no. no), ((λ no. no), settling_each (λ op. ¬ Sets op) (λ p is no. no) (λ no. no) a only))
 
-call_fault : (l : Log) (s t : StateView) (cs : List Command) (status : Status) (ops : List Op) → IsFault status → RanAll machine None l s t cs None ops → CallTo None l s t cs status ops
-call_fault l s t cs HostFault ops is ran = ran
-call_fault l s t cs InboxFault ops is ran = absurd is
-call_fault l s t cs OutOfMemory ops is ran = ran
-call_fault l s t cs Done ops is ran = absurd is
-call_fault l s t cs (Refused r) ops is ran = absurd is
-call_fault l s t cs (Usage p) ops is ran = absurd is
-call_fault l s t cs (Damaged d) ops is ran = absurd is
-call_fault l s t cs Busy ops is ran = absurd is
+call_fault : (input : Option Files) (l : Log) (s t : StateView) (cs : List PlainCommand) (status : Status) (ops : List Op) → IsFault status → RanAll (machine input) None l s t cs None ops → CallTo input None l s t cs status ops
+call_fault input l s t cs HostFault ops is ran = ran
+call_fault input l s t cs InboxFault ops is ran = absurd is
+call_fault input l s t cs OutOfMemory ops is ran = ran
+call_fault input l s t cs Done ops is ran = absurd is
+call_fault input l s t cs (Refused r) ops is ran = absurd is
+call_fault input l s t cs (Usage p) ops is ran = absurd is
+call_fault input l s t cs (Damaged d) ops is ran = absurd is
+call_fault input l s t cs Busy ops is ran = absurd is
 
-module _ (l : Log) (s t : StateView) (cs : List Command) (a b : List Op) (o : OpenedWhole machine l s t a) where
-  call_ran : (status : Status) → IsClaimedStatus status → ((d : Damage) → status ≡ Damaged d → ⊥) → RanTo (extended a l) s cs status b → CallTo None l s t cs status (a ++ b)
-  call_ran Done is not ran = (ran.0, opened_then_ran machine lawful None l s t a o cs (Some (ran.0, None)) b ran.1)
-  call_ran (Refused r) is not ran = (ran.0, opened_then_ran machine lawful None l s t a o cs (Some (ran.0, Some r)) b ran.1)
-  call_ran HostFault is not ran = opened_then_ran machine lawful None l s t a o cs None b ran
-  call_ran InboxFault is not ran = opened_then_ran machine lawful None l s t a o cs None b ran
-  call_ran OutOfMemory is not ran = opened_then_ran machine lawful None l s t a o cs None b ran
+module _ (input : Option Files) (k : Option (List ℕ)) (l : Log) (s t : StateView) (cs : List PlainCommand) (a b : List Op) (o : OpenedWhole (machine input) l s t a) where
+  then_ran : (end : Option (StateView × Option Refusal)) → Ran (machine input) k (extended a l) s cs end b → RanAll (machine input) k l s t cs end (a ++ b)
+  then_ran end ran = opened_then_ran (machine input) (lawful input) k l s t a o cs end b ran
+
+  call_ran : (status : Status) → IsClaimedStatus status → ((d : Damage) → status ≡ Damaged d → ⊥) → RanAs input k (extended a l) s cs status b → CallTo input k l s t cs status (a ++ b)
+  call_ran Done is not ran = (ran.0, then_ran (Some (ran.0, None)) ran.1)
+  call_ran (Refused r) is not ran = (ran.0, then_ran (Some (ran.0, Some r)) ran.1)
+  call_ran HostFault is not ran = then_ran None ran
+  call_ran InboxFault is not ran = then_ran None ran
+  call_ran OutOfMemory is not ran = then_ran None ran
   call_ran (Usage p) is not ran = absurd is
   call_ran (Damaged d) is not ran = absurd (not d refl)
   call_ran Busy is not ran = absurd is
 
 -- from an entry
-module _ (l : Log) (cs : List Command) (status : Status) (b : List Op) (is : IsClaimedStatus status) (w : RunsClaimed cs status (extended first l) b) (s t : StateView) (entry : Entry machine l s t) where
+module _ (input : Option Files) (Told : Option (List ℕ) → Type 0) (told : Told None) (l : Log) (cs : List PlainCommand) (status : Status) (b : List Op) (is : IsClaimedStatus status) (w : RunsClaimed input Told cs status (extended first l) b) (apart : Apart input (live_of l)) (s t : StateView) (entry : Entry (machine input) l s t) where
   stands : Open (live_of (extended first l)) s
   stands = subst (λ (m : Files). Open m s) (sym (live_first l)) entry.now
 
-  not_damaged : (d : Damage) → status ≡ Damaged d → ⊥
-  not_damaged d e = (w.damaged d e).1 s stands.stored
+  apart_first : Apart input (live_of (extended first l))
+  apart_first = subst (Apart input) (sym (live_first l)) apart
 
-  call_claimed : CallTo None l s t cs status (Claim true ∷ Barrier ∷ b)
-  call_claimed = elim (w.went s (durable_first l) stands) [
-    | inl broke ↦ call_fault l s t cs status (Claim true ∷ Barrier ∷ b) broke.fault
-        (broke_opening machine lawful None l s t cs (Claim true ∷ Barrier ∷ b) (opened_more machine l s t entry b broke.grows (opening_sets b broke.only) (opening_more l s b broke.only)))
+  not_damaged : (d : Damage) → status ≡ Damaged d → ⊥
+  not_damaged d e = ((w.damaged d e).1 apart_first.texts).0 s (stored_sound (live_of (extended first l)) s stands.stored)
+
+  call_claimed : (k : Option (List ℕ)) × Told k × CallTo input k l s t cs status (Claim true ∷ Barrier ∷ b)
+  call_claimed = elim (w.went apart_first s (durable_first l) stands) [
+    | inl broke ↦ (None, told, call_fault input l s t cs status (Claim true ∷ Barrier ∷ b) broke.fault
+        (broke_opening (machine input) (lawful input) None l s t cs (Claim true ∷ Barrier ∷ b) (opened_more (machine input) l s t entry b (grows_in input s s (extended first l) b broke.grows) (opening_sets b broke.only) (opening_more l s b broke.only))))
     | inr went ↦
         let a = went.opening in
-        let o = opened_whole machine l s t entry a went.grows (opening_sets a went.only) (opening_more l s a went.only) went.at_rest in
-        subst (λ (x : List Op). CallTo None l s t cs status (Claim true ∷ Barrier ∷ x)) went.cut
-        (call_ran l s t cs (Claim true ∷ Barrier ∷ a) went.rest o status is not_damaged (subst (λ (m : Log). RanTo m s cs status went.rest) (extended-append first a l) went.ran))
+        let o = opened_whole (machine input) l s t entry a (grows_in input s s (extended first l) a went.grows) (opening_sets a went.only) (opening_more l s a went.only) went.at_rest in
+        let k = went.ran.0 in
+        (k, went.ran.1, subst (λ (x : List Op). CallTo input k l s t cs status (Claim true ∷ Barrier ∷ x)) went.cut
+        (call_ran input k l s t cs (Claim true ∷ Barrier ∷ a) went.rest o status is not_damaged (subst (λ (m : Log). RanAs input k m s cs status went.rest) (extended-append first a l) went.ran.2)))
   ]
 
 got_not : (b : List Op) → (Claim true ∷ b) ≡ Claim false ∷ [] → ⊥
@@ -158,70 +177,77 @@ not_busy : (status : Status) → IsClaimedStatus status → status ≡ Busy → 
 not_busy status is e = subst IsClaimedStatus e is
 
 -- a call that has the store
-pub called_claimed : (cs : List Command) (status : Status) (l : Log) (a b : List Op) → a ≡ first → IsClaimedStatus status → RunsClaimed cs status (extended a l) b → Called cs status l (a ++ b)
-called_claimed cs status l a b begun is claimed = subst (λ (x : List Op). RunsClaimed cs status (extended x l) b → Called cs status l (x ++ b)) (sym begun) go claimed
+pub called_claimed : (input : Option Files) (Told : Option (List ℕ) → Type 0) → Told None → (cs : List PlainCommand) (status : Status) (l : Log) (a b : List Op) → a ≡ first → IsClaimedStatus status → RunsClaimed input Told cs status (extended a l) b → Called input Told cs status l (a ++ b)
+called_claimed input Told told cs status l a b begun is claimed = subst (λ (x : List Op). RunsClaimed input Told cs status (extended x l) b → Called input Told cs status l (x ++ b)) (sym begun) go claimed
   where
-    go : RunsClaimed cs status (extended first l) b → Called cs status l (Claim true ∷ Barrier ∷ b)
+    go : RunsClaimed input Told cs status (extended first l) b → Called input Told cs status l (Claim true ∷ Barrier ∷ b)
     go w = record {
       first = inr (refl, (tt, w.work));
       busy = (λ e. absurd (not_busy status is e), λ e. absurd (got_not (Barrier ∷ b) e));
-      damaged = λ d e. let x = w.damaged d e in (ap (λ (o : List Op). Claim true ∷ Barrier ∷ o) x.0, subst SoundForNone (live_first l) x.1, subst (λ (f : Files). IsDamage f d) (live_first l) x.2);
+      damaged = λ d e. let x = w.damaged d e in (ap (λ (o : List Op). Claim true ∷ Barrier ∷ o) x.0, subst (λ (f : Files). RootApart f → SoundForNone f × IsDamage f d) (live_first l) x.1);
       none = λ none got. w.none (subst SoundForNone (sym (live_first l)) none);
-      refused = λ q e. let x = w.refused q e in (x.0, λ s sound. x.1 s (subst (λ (f : Files). Sound f s) (sym (live_first l)) sound));
-      run = λ s t entry. (None, refl, call_claimed l cs status b is w s t entry);
+      refused = λ q e. let x = w.refused q e in (x.0, subst (λ (f : Files). RootApart f → (s : StateView) → Sound f s → EndsWith input Told s cs status) (live_first l) x.1);
+      run = λ apart s t entry. call_claimed input Told told l cs status b is w apart s t entry;
     }
 
 -- a call that another run keeps from the store
-pub called_busy : (cs : List Command) (l : Log) (ops : List Op) → ops ≡ Claim false ∷ [] → Called cs Busy l ops
-called_busy cs l ops is = subst (λ (x : List Op). Called cs Busy l x) (sym is) (record {
+pub called_busy : (input : Option Files) (Told : Option (List ℕ) → Type 0) → Told None → (cs : List PlainCommand) (l : Log) (ops : List Op) → ops ≡ Claim false ∷ [] → Called input Told cs Busy l ops
+called_busy input Told told cs l ops is = subst (λ (x : List Op). Called input Told cs Busy l x) (sym is) (record {
   first = inl (refl, refl);
   busy = (λ e. refl, λ e. refl);
   damaged = λ d e. absurd (cc);
   none = λ none got. absurd (got_not got.0 (sym got.1));
   refused = λ q e. absurd (cc);
-  run = λ s t entry. (None, refl, (refl, broke_opening machine lawful None l s t cs (Claim false ∷ []) (opened_claimed machine l s t entry false (record { kinds = (tt, tt); once = tt }) (λ no. no))));
+  run = λ apart s t entry. (None, told, (refl, broke_opening (machine input) (lawful input) None l s t cs (Claim false ∷ []) (opened_claimed (machine input) l s t entry false (record { kinds = (tt, tt); once = tt }) (λ no. no))));
 })
 
 -- a call that broke off at its claim or before
-module _ (cs : List Command) (status : Status) (l : Log) (is : IsFault status) where
+module _ (input : Option Files) (Told : Option (List ℕ) → Type 0) (told : Told None) (cs : List PlainCommand) (status : Status) (l : Log) (is : IsFault status) where
   not_now : {A : Type 0} (d : Status) → (IsFault d → ⊥) → status ≡ d → A
   not_now d never e = absurd (never (subst IsFault e is))
 
-  called_none : Called cs status l []
+  called_none : Called input Told cs status l []
   called_none = record {
     first = tt;
     busy = (λ e. not_now Busy (λ no. no) e, λ e. absurd (cc));
     damaged = λ d e. not_now (Damaged d) (λ no. no) e;
     none = λ none got. fault_or status is;
     refused = λ q e. not_now (Refused q) (λ no. no) e;
-    run = λ s t entry. (None, refl, call_fault l s t cs status [] is (broke_opening machine lawful None l s t cs [] (opened_none machine l s t entry (record { kinds = tt; once = tt }))));
+    run = λ apart s t entry. (None, told, call_fault input l s t cs status [] is (broke_opening (machine input) (lawful input) None l s t cs [] (opened_none (machine input) l s t entry (record { kinds = tt; once = tt }))));
   }
 
-  called_got : Called cs status l (Claim true ∷ [])
+  called_got : Called input Told cs status l (Claim true ∷ [])
   called_got = record {
     first = inr (refl, tt);
     busy = (λ e. not_now Busy (λ no. no) e, λ e. absurd (got_not [] e));
     damaged = λ d e. not_now (Damaged d) (λ no. no) e;
     none = λ none got. fault_or status is;
     refused = λ q e. not_now (Refused q) (λ no. no) e;
-    run = λ s t entry. (None, refl, call_fault l s t cs status (Claim true ∷ []) is (broke_opening machine lawful None l s t cs (Claim true ∷ []) (opened_claimed machine l s t entry true (record { kinds = (tt, tt); once = tt }) (λ no. no))));
+    run = λ apart s t entry. (None, told, call_fault input l s t cs status (Claim true ∷ []) is (broke_opening (machine input) (lawful input) None l s t cs (Claim true ∷ []) (opened_claimed (machine input) l s t entry true (record { kinds = (tt, tt); once = tt }) (λ no. no))));
   }
 
-  pub called_fault : (ops : List Op) → (ops ≡ []) ⊎ (ops ≡ Claim true ∷ []) → Called cs status l ops
-  called_fault ops (inl e) = subst (λ (x : List Op). Called cs status l x) (sym e) called_none
-  called_fault ops (inr e) = subst (λ (x : List Op). Called cs status l x) (sym e) called_got
+  pub called_fault : (ops : List Op) → (ops ≡ []) ⊎ (ops ≡ Claim true ∷ []) → Called input Told cs status l ops
+  called_fault ops (inl e) = subst (λ (x : List Op). Called input Told cs status l x) (sym e) called_none
+  called_fault ops (inr e) = subst (λ (x : List Op). Called input Told cs status l x) (sym e) called_got
+
+-- words spell one list at most
+one_list : (words : List (List ℕ)) (cs ds : List PlainCommand) → words_spell.commands words ≡ Some cs → words_spell.commands words ≡ Some ds → cs ≡ ds
+one_list words cs ds a b = let same : Some cs ≡ Some ds = sym a ∙ b in cc
+
+no_list : {A : Type 0} (words : List (List ℕ)) (cs : List PlainCommand) → words_spell.commands words ≡ Some cs → words_spell.commands words ≡ None → A
+no_list words cs a b = absurd (let no : Some cs ≡ None = sym a ∙ b in cc)
 
 -- words that spell commands
-module _ (words : List (List ℕ)) (cs : List Command) (found : Commands words cs) (HostRose InboxRose : Type 0) (status : Status) (host : status ≡ HostFault → HostRose) (inbox : status ≡ InboxFault → InboxRose) (l : Log) (ops : List Op) (w : Called cs status l ops) where
-  run_answer : (status : Status) → (status ≡ HostFault → HostRose) → (status ≡ InboxFault → InboxRose) → ¬ HostRose → ¬ InboxRose → GotClaim ops → (s t : StateView) → CallTo None l s t cs status ops → IsRunAnswer status
-  run_answer Done h i nh ni got s t call = tt
-  run_answer (Refused r) h i nh ni got s t call = tt
-  run_answer OutOfMemory h i nh ni got s t call = tt
-  run_answer HostFault h i nh ni got s t call = nh (h refl)
-  run_answer InboxFault h i nh ni got s t call = ni (i refl)
-  run_answer (Usage p) h i nh ni got s t call = call
-  run_answer (Damaged d) h i nh ni got s t call = call
-  run_answer Busy h i nh ni got s t call = got_not got.0 (sym got.1 ∙ call.0)
+module _ (input : Option Files) (Told : Option (List ℕ) → Type 0) (words : List (List ℕ)) (cs : List PlainCommand) (found : words_spell.commands words ≡ Some cs) (HostRose InboxRose : Type 0) (status : Status) (host : status ≡ HostFault → HostRose) (inbox : status ≡ InboxFault → InboxRose) (l : Log) (ops : List Op) (w : Called input Told cs status l ops) where
+  run_answer : (k : Option (List ℕ)) (status : Status) → (status ≡ HostFault → HostRose) → (status ≡ InboxFault → InboxRose) → ¬ HostRose → ¬ InboxRose → GotClaim ops → (s t : StateView) → CallTo input k l s t cs status ops → IsRunAnswer status
+  run_answer k Done h i nh ni got s t call = tt
+  run_answer k (Refused r) h i nh ni got s t call = tt
+  run_answer k OutOfMemory h i nh ni got s t call = tt
+  run_answer k HostFault h i nh ni got s t call = nh (h refl)
+  run_answer k InboxFault h i nh ni got s t call = ni (i refl)
+  run_answer k (Usage p) h i nh ni got s t call = call
+  run_answer k (Damaged d) h i nh ni got s t call = call
+  run_answer k Busy h i nh ni got s t call = got_not got.0 (sym got.1 ∙ call.0)
 
   damaged_answer : (status : Status) → (status ≡ HostFault → HostRose) → ¬ HostRose → IsDamagedOrFault status → IsDamagedAnswer status
   damaged_answer (Damaged d) h nh is = tt
@@ -233,29 +259,29 @@ module _ (words : List (List ℕ)) (cs : List Command) (found : Commands words c
   damaged_answer (Usage p) h nh is = is
   damaged_answer Busy h nh is = is
 
-  pub called_with : CalledWith words HostRose InboxRose status l ops
+  pub called_with : CalledWith words input Told HostRose InboxRose status l ops
   called_with = record {
-    usage = λ none. absurd (none cs found);
-    called = λ ds d. subst (λ (x : List Command). Called x status l ops) (one_list words cs ds found d) w;
-    answers = λ ds d nh ni got s t entry. let r = w.run s t entry in run_answer status host inbox nh ni got s t (subst (λ (k : Option (List ℕ)). CallTo k l s t cs status ops) r.1 r.2);
+    usage = λ none. no_list words cs found none;
+    called = λ ds d. subst (λ (x : List PlainCommand). Called input Told x status l ops) (one_list words cs ds found d) w;
+    answers = λ ds d nh ni got apart s t entry. let r = w.run apart s t entry in run_answer r.0 status host inbox nh ni got s t r.2;
     damaged = λ ds d nh got none. damaged_answer status host nh (w.none none got);
   }
 
 -- words that spell none
-pub told_with : (words : List (List ℕ)) (place : ℕ) → IsUsagePlace words place → (HostRose InboxRose : Type 0) (status : Status) (l : Log) (ops : List Op) → TellsUsage place status ops → CalledWith words HostRose InboxRose status l ops
-told_with words place is H I status l ops w = record {
+pub told_with : (input : Option Files) (Told : Option (List ℕ) → Type 0) (words : List (List ℕ)) (place : ℕ) → IsUsagePlace words place → (HostRose InboxRose : Type 0) (status : Status) (l : Log) (ops : List Op) → TellsUsage place status ops → CalledWith words input Told HostRose InboxRose status l ops
+told_with input Told words place is H I status l ops w = record {
   usage = λ none. record { first = w.first; usage = w.usage; front = inr (place, is, w.front) };
-  called = λ ds d. absurd (no_place words ds place d is);
-  answers = λ ds d nh ni got s t entry. absurd (no_place words ds place d is);
-  damaged = λ ds d nh got none. absurd (no_place words ds place d is);
+  called = λ ds d. no_list words ds d is.0;
+  answers = λ ds d nh ni got apart s t entry. no_list words ds d is.0;
+  damaged = λ ds d nh got none. no_list words ds d is.0;
 }
 
 -- want of memory for the commands
-pub unread_with : (words : List (List ℕ)) (HostRose InboxRose : Type 0) (l : Log) → CalledWith words HostRose InboxRose OutOfMemory l []
-unread_with words H I l = record {
+pub unread_with : (input : Option Files) (Told : Option (List ℕ) → Type 0) → Told None → (words : List (List ℕ)) (HostRose InboxRose : Type 0) (l : Log) → CalledWith words input Told HostRose InboxRose OutOfMemory l []
+unread_with input Told told words H I l = record {
   usage = λ none. record { first = tt; usage = λ place e. absurd (cc); front = inl refl };
-  called = λ ds d. called_fault ds OutOfMemory l tt [] (inl refl);
-  answers = λ ds d nh ni got s t entry. tt;
+  called = λ ds d. called_fault input Told told ds OutOfMemory l tt [] (inl refl);
+  answers = λ ds d nh ni got apart s t entry. tt;
   damaged = λ ds d nh got none. tt;
 }
 

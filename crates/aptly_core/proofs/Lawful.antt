@@ -1,30 +1,90 @@
--- The machine of the program is lawful.
-use Rattle.std.proofs.Common.{◌≡◌, ℕ, List, [], Option, refl, sym, ◌∙◌, ap, subst}
+-- The machine of the program is lawful, whatever its inbox tells.
+use Rattle.std.proofs.Common.{◌≡◌, ℕ, Bool, true, false, List, [], length, All, nat_le, Option, Some, None, refl, sym, ◌∙◌, ap, subst}
+use Rattle.std.specs.Bool.{if◌then◌else◌}
+use Rattle.ap_host.specs.Disk.{Files}
+use Rattle.command_words.specs.Plain.{PlainCommand, repo_create, repo_add, repo_show, package_search, package_show}
 use Rattle.run_model.specs.Run.{Outcome, Lawful}
-use Rattle.aptly_core.specs.declared.command_words.Command.{Command}
-use Rattle.aptly_core.specs.declared.machine_state.Refusal.{Refusal}
-use Rattle.aptly_core.specs.Machine.{machine, Steps}
-use Rattle.aptly_core.specs.State.{Valid}
-use Rattle.aptly_core.specs.Step.{Came, came_to, refusal_of}
-use Rattle.aptly_core.specs.Values.{StateView}
-use Rattle.aptly_core.proofs.StepLemmas.{says_some, valid_step}
-
-replies : (k : Option (List ℕ)) (s : StateView) (c : Command) (o : Outcome StateView Refusal) → Steps k s c o → o.reply ≡ [] → ⊥
-replies k s c o step none = says_some s c (refusal_of s c) (sym (ap (λ (x : Came). x.reply) step) ∙ none)
-
-pub keeps : (k : Option (List ℕ)) (s : StateView) (c : Command) (o : Outcome StateView Refusal) → Valid s → Steps k s c o → Valid o.state
-keeps k s c o valid step = subst Valid (sym (ap (λ (x : Came). x.state) step)) (valid_step s c valid)
+use Rattle.machine_state.specs.declared.limit.Limit.TheVariants.{Repos}
+use Rattle.machine_state.specs.declared.arrived.Arrived.{Arrived}
+use Rattle.machine_state.specs.declared.arrived.Arrived.TheVariants as arrivals
+use Rattle.machine_state.specs.declared.refusal.Refusal.{Refusal}
+use Rattle.machine_state.specs.declared.refusal.Refusal.TheVariants.{NotBuilt, Limit}
+use Rattle.machine_state.specs.Ascending.{put}
+use Rattle.machine_state.specs.State.{Valid, repo_cmp}
+use Rattle.machine_state.specs.Values.{StateView}
+use Rattle.reply_text.specs.Refusals.{refusal_line}
+use Rattle.reply_text.specs.Replies as replies
+use Rattle.machine_step.specs.Early.{early, conditions, AfterNames, Refuses}
+use Rattle.machine_step.specs.Step.{Came, Step, new_repo, refused, created, taken_in, done, came_to}
+use Rattle.machine_step.proofs.LawLemmas.{says_step, valid_step, total_step}
+use Rattle.aptly_core.specs.Machine.{machine, came, Steps}
 
 -- an outcome as one of a run
 abbrev pub outcome_of : Came → Outcome StateView Refusal
 outcome_of o = record { reply = o.reply; refusal = o.refusal; state = o.state }
 
-pub lawful : Lawful machine
-lawful = record {
-  replies = replies;
-  plain = λ j k s c o none step. step;
-  keeps = keeps;
-  total = λ k s c valid. (outcome_of (came_to s c (refusal_of s c)), refl);
+pub says : (input : Option Files) (k : Option (List ℕ)) (s : StateView) (c : PlainCommand) (o : Outcome StateView Refusal) → Steps input k s c o → o.reply ≡ [] → ⊥
+says input k s c o step = says_step input k s c (came o) step
+
+-- a command that isn't refused may come to the same whatever a call tells
+not_refused : (j k : Option (List ℕ)) (texts : List (List ℕ)) (e : Option Refusal) → AfterNames j texts e None → AfterNames k texts e None
+not_refused j k texts None w = w
+not_refused j k texts (Some r) w = w
+
+pub plain : (input : Option Files) (j k : Option (List ℕ)) (s : StateView) (c : PlainCommand) (o : Outcome StateView Refusal) → o.refusal ≡ None → Steps input j s c o → Steps input k s c o
+plain input j k s c o none step = go step.2.0 step.2.1 step.2.2
+  where
+    go : (r : Option Refusal) → Refuses j s c r → came o ≡ came_to s c step.0 r → Steps input k s c o
+    go None w is = (step.0, step.1, (None, not_refused j k (conditions c) (early s c) w, is))
+    go (Some r) w is = absurd (let no : None ≡ Some r = sym none ∙ ap (λ (x : Came). x.refusal) is in cc)
+
+pub keeps : (input : Option Files) (k : Option (List ℕ)) (s : StateView) (c : PlainCommand) (o : Outcome StateView Refusal) → Valid s → Steps input k s c o → Valid o.state
+keeps input k s c o valid step = valid_step ? input k s c (came o) valid step
+
+-- a refused command says the line of its refusal
+abbrev pub SaysIt : Came → Type 0
+SaysIt x = (r : Refusal) → x.refusal ≡ Some r → x.reply ≡ refusal_line r
+
+line_of : (s : StateView) (q : Refusal) → SaysIt (refused s q)
+line_of s q r is = let one : q ≡ r = cc in ap refusal_line one
+
+no_line : (s : StateView) (reply : List ℕ) (state : StateView) → SaysIt (record { reply = reply; refusal = None; state = state })
+no_line s reply state r is = absurd (let no : None ≡ Some r = is in cc)
+
+done_says : (s : StateView) (c : PlainCommand) (arrived : Arrived) → SaysIt (done s c arrived)
+unfolding done
+done_says s (repo_create comment distribution component name) arrived = by_room (nat_le 10000 (length s.repos))
+  where
+    by_room : (b : Bool) → SaysIt (if b then refused s (Limit Repos) else record { reply = replies.repo_created name; refusal = None; state = record s { repos = put repo_cmp (new_repo name) s.repos } })
+    by_room true = line_of s (Limit Repos)
+    by_room false = no_line s _ _
+done_says s (repo_add name folder) arrived = by_arrived arrived
+  where
+    by_arrived : (a : Arrived) → SaysIt (taken_in s name a)
+    by_arrived (arrivals.List list date) = no_line s _ _
+    by_arrived (arrivals.Refused refusal) = line_of s refusal
+    by_arrived arrivals.Nothing = line_of s NotBuilt
+done_says s (repo_show packages name) arrived = no_line s _ _
+done_says s (package_search query) arrived = no_line s _ _
+done_says s (package_show query) arrived = no_line s _ _
+done_says s command arrived = line_of s NotBuilt
+
+pub refused_says : (input : Option Files) (k : Option (List ℕ)) (s : StateView) (c : PlainCommand) (o : Outcome StateView Refusal) (r : Refusal) → Steps input k s c o → o.refusal ≡ Some r → o.reply ≡ refusal_line r
+refused_says input k s c o r step is = subst SaysIt (sym step.2.2) (go step.2.0) r is
+  where
+    go : (q : Option Refusal) → SaysIt (came_to s c step.0 q)
+    go (Some q) = line_of s q
+    go None = done_says s c step.0
+
+total : (input : Option Files) (k : Option (List ℕ)) (s : StateView) (c : PlainCommand) → Valid s → (o : Came) × Step input k s c o
+total input k s c valid = total_step input k s c
+
+pub lawful : (input : Option Files) → Lawful (machine input)
+lawful input = record {
+  replies = says input;
+  plain = plain input;
+  keeps = keeps input;
+  total = λ k s c valid. let w = total input k s c valid in (outcome_of w.0, w.1);
   valid = λ f s stands. stands.stored.valid;
   opens = λ f s settled. settled;
   settled_serves = λ f s settled. settled.public;

@@ -1,20 +1,12 @@
-pub mod CommitLemmas
-pub mod Lawful
-pub mod SaveLemmas
-pub mod RunLemmas
-pub mod SettleLemmas
-pub mod OpenLemmas
-pub mod ListLemmas
-pub mod CallLemmas
-pub mod AscendingLemmas
-pub mod RepoLemmas
-pub mod StepLemmas
-pub mod WordLemmas
-pub mod RootTexts
-pub mod LineLemmas
-pub mod ValueLemmas
-pub mod StopLemmas
-pub mod BodyLemmas
-pub mod ExitLemmas
-pub mod RootLemmas
-pub mod WholeLemmas
+mod CommitLemmas
+mod ReadyLemmas
+mod SettleLemmas
+mod GrowLemmas
+mod Lawful
+mod RunLemmas
+mod SaveLemmas
+mod ListLemmas
+mod OpenLemmas
+mod CallLemmas
+mod LoadLemmas
+mod DecideLemmas

@@ -1,158 +1,176 @@
 -- Commands in turn.
-use Rattle.std.proofs.Common.{◌≡◌, ℕ, ◌+◌, ◌<◌, ◌≤◌, List, [], ◌∷◌, ◌++◌, length, drop, get_or, drop-cons, add-one, Option, Some, None, Ok, Err, refl, sym, ◌∙◌, ap, subst, append-nil}
+use Rattle.std.proofs.Common.{◌≡◌, ℕ, ◌+◌, ◌<◌, ◌≤◌, List, [], ◌∷◌, ◌++◌, length, drop, map, get_or, drop-cons, add-one, Option, Some, None, Ok, Err, refl, sym, ◌∙◌, ap, subst, append-nil}
 use Rattle.std.proofs.Math.ListN.{drop_of_length-le}
+use Rattle.std.proofs.lemmas.List.{get_or-map, length-map}
 use Rattle.ap_host.specs.declared.host.Op.{Op}
-use Rattle.ap_host.specs.Disk.{Log, extended, said}
+use Rattle.ap_host.specs.Disk.{Files, Log, extended, said}
 use Rattle.ap_host.specs.Changes.{EachOp}
 use Rattle.ap_host.proofs.ChangeLemmas.{EachOp-append}
 use Rattle.ap_host.proofs.DiskLemmas.{extended-append, extended-none}
+use Rattle.command_words.specs.Plain.{PlainCommand}
 use Rattle.run_model.specs.Run.{Outcome, Ran, Runs, EndsAs, AtRest}
-use Rattle.run_model.proofs.Joins.{said-append, turn_done, turn_refused, turn_broke, ran_nothing}
-use Rattle.aptly_core.specs.declared.command_words.Command.{Command}
-use Rattle.aptly_core.specs.declared.machine_state.Refusal.{Refusal}
-use Rattle.aptly_core.specs.declared.run.RunFault.{RunFault}
-use Rattle.aptly_core.specs.declared.run.RunFault.TheVariants.{HostFault, InboxFault, OutOfMemory}
+use Rattle.run_model.proofs.Joins.{said-append, turn_done, turn_refused, turn_broke, ran_nothing, done_told}
+use Rattle.stage_file.specs.Stage.{StageState}
+use Rattle.machine_state.specs.declared.refusal.Refusal.{Refusal}
+use Rattle.machine_state.specs.State.{Valid}
+use Rattle.machine_state.specs.Values.{StateView}
+use Rattle.reply_text.specs.Refusals.{refusal_line}
+use Rattle.aptly_core.specs.declared.fault.RunFault.{RunFault}
+use Rattle.aptly_core.specs.declared.fault.RunFault.TheVariants.{HostFault, InboxFault, OutOfMemory}
 use Rattle.aptly_core.specs.declared.status.Status.{Status}
 use Rattle.aptly_core.specs.declared.status.Status.TheVariants as statuses
-use Rattle.aptly_core.specs.Machine.{machine, Steps, came, IsWork}
-use Rattle.aptly_core.specs.Replies.{refusal_line}
-use Rattle.aptly_core.specs.Runs.{RunsOne, RunsList, RanTo, EndsWith, ComesTo, Turns, TurnComes, TurnRan, IsTurnEnd, next_of_done, status_of_fault}
-use Rattle.aptly_core.specs.State.{Valid}
-use Rattle.aptly_core.specs.Step.{Came, came_to, refusal_of}
-use Rattle.aptly_core.specs.Values.{StateView}
-use Rattle.aptly_core.proofs.Lawful.{lawful}
+use Rattle.aptly_core.specs.Machine.{machine, Steps, IsWork}
+use Rattle.aptly_core.specs.Runs.{MayRun, RunsOne, RunsList, RanAs, RanTo, EndsWith, ComesTo, Turns, TurnComes, TurnRan, IsTurnEnd, next_of_done, status_of_fault}
+use Rattle.aptly_core.proofs.Lawful.{lawful, plain, refused_says}
 
--- a refused command says the line of its refusal
-pub refused_says : (s : StateView) (c : Command) (o : Outcome StateView Refusal) (r : Refusal) → Steps None s c o → o.refusal ≡ Some r → o.reply ≡ refusal_line r
-refused_says s c o r step refused = go (refusal_of s c) step
-  where
-    go : (q : Option Refusal) → came o ≡ came_to s c q → o.reply ≡ refusal_line r
-    go None is = absurd (let no : None ≡ Some r = sym (ap (λ (x : Came). x.refusal) is) ∙ refused in cc)
-    go (Some q) is =
-        let same : Some q ≡ Some r = sym (ap (λ (x : Came). x.refusal) is) ∙ refused in
-        let one : q ≡ r = cc in
-        ap (λ (x : Came). x.reply) is ∙ ap refusal_line one
-
-pub turn_so : (s : StateView) (c : Command) (done : StateView × Option Refusal) (l : Log) (ops : List Op) → RunsOne s c (Ok done) l ops → Turns s c (next_of_done done) l ops
-turn_so s c (t, None) l ops w = record { work = w.work; refused = λ valid r no. absurd (cc); ran = w.ran }
-turn_so s c (t, Some q) l ops w = record {
+pub turn_so : (input : Option Files) (T : Option (List ℕ) → Type 0) (s : StateView) (c : PlainCommand) (before now : StageState) (done : StateView × Option Refusal) (l : Log) (ops : List Op) → RunsOne input T s c before now (Ok done) l ops → Turns input T s c before now (next_of_done done) l ops
+turn_so input T s c before now (t, None) l ops w = record {
   work = w.work;
-  refused = λ valid r is. let one : q ≡ r = cc in refused_says s c (record { reply = said ops; refusal = Some q; state = t }) q (w.says valid) refl ∙ ap refusal_line one;
-  ran = λ rest. (t, w.ran rest);
+  refused = λ valid r no. absurd (cc);
+  ran = λ may k. let ran = w.ran may in done_told (machine input) (lawful input) ran.0 k l s c t None ops refl ran.2;
+  on = w.on;
+}
+turn_so input T s c before now (t, Some q) l ops w = record {
+  work = w.work;
+  refused = λ valid r is. let one : q ≡ r = cc in let step = w.says valid in refused_says input step.0 s c (record { reply = said ops; refusal = Some q; state = t }) q step.2 refl ∙ ap refusal_line one;
+  ran = λ may. let ran = w.ran may in (ran.0, ran.1, t, ran.2);
+  on = λ may. tt;
 }
 
-pub turn_err : (s : StateView) (c : Command) (fault : RunFault) (l : Log) (ops : List Op) → RunsOne s c (Err fault) l ops → Turns s c (Err (status_of_fault fault)) l ops
-turn_err s c HostFault l ops w = record { work = w.work; refused = λ valid r no. absurd (cc); ran = w.ran }
-turn_err s c InboxFault l ops w = record { work = w.work; refused = λ valid r no. absurd (cc); ran = w.ran }
-turn_err s c OutOfMemory l ops w = record { work = w.work; refused = λ valid r no. absurd (cc); ran = w.ran }
+pub turn_err : (input : Option Files) (T : Option (List ℕ) → Type 0) (s : StateView) (c : PlainCommand) (before now : StageState) (fault : RunFault) (l : Log) (ops : List Op) → RunsOne input T s c before now (Err fault) l ops → Turns input T s c before now (Err (status_of_fault fault)) l ops
+turn_err input T s c before now HostFault l ops w = record { work = w.work; refused = λ valid r no. absurd (cc); ran = w.ran; on = λ may. tt }
+turn_err input T s c before now InboxFault l ops w = record { work = w.work; refused = λ valid r no. absurd (cc); ran = w.ran; on = λ may. tt }
+turn_err input T s c before now OutOfMemory l ops w = record { work = w.work; refused = λ valid r no. absurd (cc); ran = w.ran; on = λ may. tt }
 
-pub turn_comes : (s : StateView) (c : Command) (done : StateView × Option Refusal) → ComesTo s c done → TurnComes s c (next_of_done done)
-turn_comes s c (t, None) w = w
-turn_comes s c (t, Some q) w = (t, w)
+pub turn_comes : (input : Option Files) (T : Option (List ℕ) → Type 0) (s : StateView) (c : PlainCommand) (done : StateView × Option Refusal) → ComesTo input T s c done → TurnComes input T s c (next_of_done done)
+turn_comes input T s c (t, None) w = (w.0, w.1, λ k. plain input w.2 k s c (record { reply = w.1; refusal = None; state = t }) refl w.4)
+turn_comes input T s c (t, Some q) w = (t, w)
 
 -- whatever outcomes the commands from i on come to from here, all of them come to from the start
-abbrev pub ComesFrom : StateView → List Command → StateView → ℕ → Type 0
-ComesFrom s0 all s i = Valid s0 → Valid s × ((os : List (Outcome StateView Refusal)) (last : Option Refusal) → Runs machine None s (drop i all) os → EndsAs (drop i all) os last
-    → (whole : List (Outcome StateView Refusal)) × Runs machine None s0 all whole × EndsAs all whole last)
+abbrev pub ComesFrom : Option Files → StateView → List PlainCommand → StateView → ℕ → Type 0
+ComesFrom input s0 all s i = Valid s0 → Valid s × ((k : Option (List ℕ)) (os : List (Outcome StateView Refusal)) (last : Option Refusal) → Runs (machine input) k s (drop i all) os → EndsAs (drop i all) os last
+    → (whole : List (Outcome StateView Refusal)) × Runs (machine input) k s0 all whole × EndsAs all whole last)
+
+abbrev pub Goes : Option Files → StateView → List PlainCommand → StateView → ℕ → Log → List Op → Type 0
+Goes input s0 all s i start a = (k : Option (List ℕ)) (end : Option (StateView × Option Refusal)) (more : List Op) → Ran (machine input) k (extended a start) s (drop i all) end more → Ran (machine input) k start s0 all end (a ++ more)
 
 -- so far these operations were done
-pub record RunsFrom (s0 : StateView) (all : List Command) (s : StateView) (i : ℕ) (start : Log) (ops : List Op) : Type 0 where
+pub record RunsFrom (input : Option Files) (s0 : StateView) (all : List PlainCommand) (before : StageState) (s : StateView) (i : ℕ) (now : StageState) (start : Log) (ops : List Op) : Type 0 where
   pub work : EachOp IsWork ops
-  pub ran : AtRest machine s0 start → AtRest machine s (extended ops start)
-      × ((end : Option (StateView × Option Refusal)) (more : List Op) → Ran machine None (extended ops start) s (drop i all) end more → Ran machine None start s0 all end (ops ++ more))
+  pub ran : MayRun input s0 before start → MayRun input s now (extended ops start)
+      × ((k : Option (List ℕ)) (end : Option (StateView × Option Refusal)) (more : List Op) → Ran (machine input) k (extended ops start) s (drop i all) end more → Ran (machine input) k start s0 all end (ops ++ more))
 
-pub comes_first : (s : StateView) (all : List Command) → ComesFrom s all s 0
-comes_first s all valid = (valid, λ os last runs ends. (os, runs, ends))
+pub comes_first : (input : Option Files) (s : StateView) (all : List PlainCommand) → ComesFrom input s all s 0
+comes_first input s all valid = (valid, λ k os last runs ends. (os, runs, ends))
 
-pub runs_first : (s : StateView) (all : List Command) (start : Log) → RunsFrom s all s 0 start []
-runs_first s all start = record {
+pub runs_first : (input : Option Files) (s : StateView) (all : List PlainCommand) (st : StageState) (start : Log) → RunsFrom input s all st s 0 st start []
+runs_first input s all st start = record {
   work = tt;
-  ran = λ rest. (
-    subst (λ (x : Log). AtRest machine s x) (sym (extended-none start)) rest,
-    λ end more ran. subst (λ (x : Log). Ran machine None x s all end more) (extended-none start) ran,
+  ran = λ may. (
+    subst (λ (x : Log). MayRun input s st x) (sym (extended-none start)) may,
+    λ k end more ran. subst (λ (x : Log). Ran (machine input) k x s all end more) (extended-none start) ran,
   );
 }
 
-module _ (s0 : StateView) (all : List Command) (s : StateView) (i : ℕ) (c : Command) (below : i < length all) (is : c ≡ get_or all i c) where
+module _ (input : Option Files) (s0 : StateView) (all : List PlainCommand) (s : StateView) (i : ℕ) (c : PlainCommand) (below : i < length all) (is : c ≡ get_or all i c) where
   cut : drop i all ≡ c ∷ drop (i + 1) all
-  cut = drop-cons all i c below ∙ ap (λ n. get_or all i c ∷ drop n all) (sym (add-one i)) ∙ ap (λ (x : Command). x ∷ drop (i + 1) all) (sym is)
+  cut = drop-cons all i c below ∙ ap (λ n. get_or all i c ∷ drop n all) (sym (add-one i)) ∙ ap (λ (x : PlainCommand). x ∷ drop (i + 1) all) (sym is)
 
-  pub comes_more : (next : StateView) → ComesFrom s0 all s i → (Valid s → ComesTo s c (next, None)) → ComesFrom s0 all next (i + 1)
-  comes_more next so_far comes valid =
+  pub comes_more : (T : Option (List ℕ) → Type 0) (next : StateView) → ComesFrom input s0 all s i → (Valid s → TurnComes input T s c (Ok next)) → ComesFrom input s0 all next (i + 1)
+  comes_more T next so_far comes valid =
       let before = so_far valid in
       let step = comes before.0 in (
         step.0,
-        λ os last runs ends.
+        λ k os last runs ends.
             let o : Outcome StateView Refusal = record { reply = step.1; refusal = None; state = next } in
-            before.1 (o ∷ os) last (subst (λ (cs : List Command). Runs machine None s cs (o ∷ os)) (sym cut) (step.2, runs)) (subst (λ (cs : List Command). EndsAs cs (o ∷ os) last) (sym cut) ends),
+            before.1 k (o ∷ os) last (subst (λ (cs : List PlainCommand). Runs (machine input) k s cs (o ∷ os)) (sym cut) (step.2 k, runs)) (subst (λ (cs : List PlainCommand). EndsAs cs (o ∷ os) last) (sym cut) ends),
       )
 
-  pub comes_end : (end : Status) → IsTurnEnd end → ComesFrom s0 all s i → (Valid s → TurnComes s c (Err end)) → Valid s0 → EndsWith s0 all end
-  comes_end statuses.Done only so_far comes valid = absurd only
-  comes_end (statuses.Refused r) only so_far comes valid =
-      let before = so_far valid in
-      let step = comes before.0 in
-      let o : Outcome StateView Refusal = record { reply = step.1.1; refusal = Some r; state = step.0 } in
-      before.1 (o ∷ []) (Some r) (subst (λ (cs : List Command). Runs machine None s cs (o ∷ [])) (sym cut) (step.1.2, refl)) (subst (λ (cs : List Command). EndsAs cs (o ∷ []) (Some r)) (sym cut) (refl, refl))
-  comes_end (statuses.Usage p) only so_far comes valid = tt
-  comes_end statuses.HostFault only so_far comes valid = tt
-  comes_end statuses.InboxFault only so_far comes valid = tt
-  comes_end statuses.OutOfMemory only so_far comes valid = tt
-  comes_end (statuses.Damaged d) only so_far comes valid = tt
-  comes_end statuses.Busy only so_far comes valid = tt
+  -- what one command is told is told to all
+  module _ (T U : Option (List ℕ) → Type 0) (wider : (k : Option (List ℕ)) → T k → U k) where
+    pub comes_end : (end : Status) → IsTurnEnd end → ComesFrom input s0 all s i → (Valid s → TurnComes input T s c (Err end)) → Valid s0 → EndsWith input U s0 all end
+    comes_end statuses.Done only so_far comes valid = absurd only
+    comes_end (statuses.Refused r) only so_far comes valid =
+        let before = so_far valid in
+        let step = comes before.0 in
+        let o : Outcome StateView Refusal = record { reply = step.1.1; refusal = Some r; state = step.0 } in
+        let k = step.1.2 in
+        let whole = before.1 k (o ∷ []) (Some r) (subst (λ (cs : List PlainCommand). Runs (machine input) k s cs (o ∷ [])) (sym cut) (step.1.4, refl)) (subst (λ (cs : List PlainCommand). EndsAs cs (o ∷ []) (Some r)) (sym cut) (refl, refl)) in
+        (k, wider k step.1.3, whole.0, whole.1, whole.2)
+    comes_end (statuses.Usage p) only so_far comes valid = tt
+    comes_end statuses.HostFault only so_far comes valid = tt
+    comes_end statuses.InboxFault only so_far comes valid = tt
+    comes_end statuses.OutOfMemory only so_far comes valid = tt
+    comes_end (statuses.Damaged d) only so_far comes valid = tt
+    comes_end statuses.Busy only so_far comes valid = tt
 
-  module _ (start : Log) (a : List Op) (so_far : RunsFrom s0 all s i start a) (b : List Op) where
-    this : (end : Option (StateView × Option Refusal)) → Ran machine None (extended a start) s (c ∷ []) end b → Ran machine None (extended a start) s (get_or all i c ∷ []) end b
-    this end ran = subst (λ (x : Command). Ran machine None (extended a start) s (x ∷ []) end b) is ran
+    module _ (st mid now : StageState) (start : Log) (a : List Op) (so_far : RunsFrom input s0 all st s i mid start a) (b : List Op) where
+      this : (k : Option (List ℕ)) (end : Option (StateView × Option Refusal)) → Ran (machine input) k (extended a start) s (c ∷ []) end b → Ran (machine input) k (extended a start) s (get_or all i c ∷ []) end b
+      this k end ran = subst (λ (x : PlainCommand). Ran (machine input) k (extended a start) s (x ∷ []) end b) is ran
 
-    pub runs_more : (next : StateView) → Turns s c (Ok next) (extended a start) b → RunsFrom s0 all next (i + 1) start (a ++ b)
-    runs_more next turns = record {
-      work = EachOp-append IsWork a b so_far.work turns.work;
-      ran = λ rest.
-          let before = so_far.ran rest in
-          let turn = turns.ran before.0 in (
-            subst (λ (m : Log). AtRest machine next m) (extended-append a b start) turn.ends.3,
-            turn_done machine lawful None start s0 all a s i c below before.1 next None refl b (this (Some (next, None)) turn),
-          );
-    }
+      pub runs_more : (next : StateView) → Turns input T s c mid now (Ok next) (extended a start) b → RunsFrom input s0 all st next (i + 1) now start (a ++ b)
+      runs_more next turns = record {
+        work = EachOp-append IsWork a b so_far.work turns.work;
+        ran = λ may.
+            let before = so_far.ran may in
+            let turn = turns.ran before.0 in (
+              subst (λ (m : Log). MayRun input next now m) (extended-append a b start) (turns.on before.0),
+              λ k. turn_done (machine input) (lawful input) k start s0 all a s i c below (before.1 k) next None refl b (this k (Some (next, None)) (turn k)),
+            );
+      }
 
-    pub runs_end : (end : Status) → IsTurnEnd end → ComesFrom s0 all s i → Turns s c (Err end) (extended a start) b → RunsList s0 all end start (a ++ b)
-    runs_end end only comes turns = record {
-      work = EachOp-append IsWork a b so_far.work turns.work;
-      refused = λ valid r e. (said a, said-append a b ∙ ap (λ (x : List ℕ). said a ++ x) (turns.refused (comes valid).0 r (ap (λ (x : Status). Err x) e)));
-      ran = λ rest. let before = so_far.ran rest in go end only before.1 (turns.ran before.0);
-    }
-      where
-        broke : ((end : Option (StateView × Option Refusal)) (more : List Op) → Ran machine None (extended a start) s (drop i all) end more → Ran machine None start s0 all end (a ++ more)) → Ran machine None (extended a start) s (c ∷ []) None b → Ran machine None start s0 all None (a ++ b)
-        broke on ran = turn_broke machine lawful None start s0 all a s i c below on b (this None ran)
+      pub runs_end : (end : Status) → IsTurnEnd end → ComesFrom input s0 all s i → Turns input T s c mid now (Err end) (extended a start) b → RunsList input U s0 all st end start (a ++ b)
+      runs_end end only comes turns = record {
+        work = EachOp-append IsWork a b so_far.work turns.work;
+        refused = λ valid r e. (said a, said-append a b ∙ ap (λ (x : List ℕ). said a ++ x) (turns.refused (comes valid).0 r (ap (λ (x : Status). Err x) e)));
+        ran = λ may. let before = so_far.ran may in go end only before.1 (turns.ran before.0);
+      }
+        where
+          broke : Goes input s0 all s i start a → (w : (k : Option (List ℕ)) × T k × Ran (machine input) k (extended a start) s (c ∷ []) None b) → (k : Option (List ℕ)) × U k × Ran (machine input) k start s0 all None (a ++ b)
+          broke on w = (w.0, wider w.0 w.1, turn_broke (machine input) (lawful input) w.0 start s0 all a s i c below (on w.0) b (this w.0 None w.2))
 
-        go : (end : Status) → IsTurnEnd end → ((end : Option (StateView × Option Refusal)) (more : List Op) → Ran machine None (extended a start) s (drop i all) end more → Ran machine None start s0 all end (a ++ more))
-            → TurnRan (extended a start) s c (Err end) b → RanTo start s0 all end (a ++ b)
-        go statuses.Done only on ran = absurd only
-        go (statuses.Refused r) only on ran = (ran.0, turn_refused machine lawful None start s0 all a s i c below on ran.0 (Some r) r refl b (this (Some (ran.0, Some r)) ran.1))
-        go (statuses.Usage p) only on ran = absurd only
-        go statuses.HostFault only on ran = broke on ran
-        go statuses.InboxFault only on ran = broke on ran
-        go statuses.OutOfMemory only on ran = broke on ran
-        go (statuses.Damaged d) only on ran = absurd only
-        go statuses.Busy only on ran = absurd only
+          go : (end : Status) → IsTurnEnd end → Goes input s0 all s i start a → TurnRan input T (extended a start) s c (Err end) b → RanTo input U start s0 all end (a ++ b)
+          go statuses.Done only on ran = absurd only
+          go (statuses.Refused r) only on ran = (ran.0, wider ran.0 ran.1, (ran.2, turn_refused (machine input) (lawful input) ran.0 start s0 all a s i c below (on ran.0) ran.2 (Some r) r refl b (this ran.0 (Some (ran.2, Some r)) ran.3)))
+          go (statuses.Usage p) only on ran = absurd only
+          go statuses.HostFault only on ran = broke on ran
+          go statuses.InboxFault only on ran = broke on ran
+          go statuses.OutOfMemory only on ran = broke on ran
+          go (statuses.Damaged d) only on ran = absurd only
+          go statuses.Busy only on ran = absurd only
 
 -- all were done
-pub comes_all : (s0 : StateView) (all : List Command) (s : StateView) (i : ℕ) → length all ≤ i → ComesFrom s0 all s i → Valid s0 → EndsWith s0 all statuses.Done
-comes_all s0 all s i over so_far valid =
+pub comes_all : (input : Option Files) (U : Option (List ℕ) → Type 0) → U None → (s0 : StateView) (all : List PlainCommand) (s : StateView) (i : ℕ) → length all ≤ i → ComesFrom input s0 all s i → Valid s0 → EndsWith input U s0 all statuses.Done
+comes_all input U told s0 all s i over so_far valid =
     let none : drop i all ≡ [] = drop_of_length-le all over in
-    (so_far valid).1 [] None (subst (λ (cs : List Command). Runs machine None s cs []) (sym none) tt) (subst (λ (cs : List Command). EndsAs {S = StateView} {R = Refusal} cs [] None) (sym none) refl)
+    let whole = (so_far valid).1 None [] None (subst (λ (cs : List PlainCommand). Runs (machine input) None s cs []) (sym none) tt) (subst (λ (cs : List PlainCommand). EndsAs {S = StateView} {R = Refusal} cs [] None) (sym none) refl) in
+    (None, told, whole.0, whole.1, whole.2)
 
-pub runs_all : (s0 : StateView) (all : List Command) (s : StateView) (i : ℕ) → length all ≤ i → (start : Log) (a : List Op) → RunsFrom s0 all s i start a → RunsList s0 all statuses.Done start a
-runs_all s0 all s i over start a so_far = record {
+pub runs_all : (input : Option Files) (U : Option (List ℕ) → Type 0) → U None → (s0 : StateView) (all : List PlainCommand) (st : StageState) (s : StateView) (i : ℕ) (now : StageState) → length all ≤ i → (start : Log) (a : List Op) → RunsFrom input s0 all st s i now start a → RunsList input U s0 all st statuses.Done start a
+runs_all input U told s0 all st s i now over start a so_far = record {
   work = so_far.work;
   refused = λ valid r no. absurd (cc);
-  ran = λ rest.
-      let before = so_far.ran rest in
-      let none : List Command = [] in
-      let nothing = ran_nothing machine lawful None (extended a start) s none (Some (s, None)) before.0 (refl, refl, refl) in (
-        s,
-        subst (λ (x : List Op). Ran machine None start s0 all (Some (s, None)) x) (append-nil a)
-            (before.1 (Some (s, None)) [] (subst (λ (cs : List Command). Ran machine None (extended a start) s cs (Some (s, None)) []) (sym (drop_of_length-le all over)) nothing)),
+  ran = λ may.
+      let before = so_far.ran may in
+      let none : List PlainCommand = [] in
+      let nothing = ran_nothing (machine input) (lawful input) None (extended a start) s none (Some (s, None)) before.0.rest (refl, refl, refl) in (
+        None,
+        told,
+        (
+          s,
+          subst (λ (x : List Op). Ran (machine input) None start s0 all (Some (s, None)) x) (append-nil a)
+              (before.1 None (Some (s, None)) [] (subst (λ (cs : List PlainCommand). Ran (machine input) None (extended a start) s cs (Some (s, None)) []) (sym (drop_of_length-le all over)) nothing)),
+        ),
       );
 }
+
+-- ---- commands as they are seen
+module _ {A : Type 0} (view : A → PlainCommand) (commands : List A) (i : ℕ) where
+  pub plain_below : i < length commands → i < length (map view commands)
+  plain_below lt = subst (λ (n : ℕ). i < n) (sym (length-map commands view)) lt
+
+  pub plain_over : length commands ≤ i → length (map view commands) ≤ i
+  plain_over le = subst (λ (n : ℕ). n ≤ i) (sym (length-map commands view)) le
+
+  pub plain_at : (item : A) → i < length commands → item ≡ get_or commands i item → view item ≡ get_or (map view commands) i (view item)
+  plain_at item lt is = ap view is ∙ sym (get_or-map view commands i item (view item) lt)

@@ -11,8 +11,8 @@ use Rattle.aptly_core.specs.declared.catalogue_root.LoadFault.TheVariants.{Damag
 use Rattle.aptly_core.specs.declared.status.Damage.{Damage}
 use Rattle.aptly_core.specs.Opens.{Enters, SettlesTo, OpensTo}
 use Rattle.aptly_core.specs.Store.{Sound, MayLoad}
-use Rattle.aptly_core.specs.Values.{StateView}
-use Rattle.aptly_core.proofs.SettleLemmas.{nothing_settled}
+use Rattle.machine_state.specs.Values.{StateView}
+use Rattle.aptly_core.proofs.SettleLemmas.{nothing_settled, settling_live}
 
 pub enters_err : (r : Result Bool HostErr) (e : HostErr) (ops : List Op) → r ≡ Err e → (ops ≡ []) ⊎ (ops ≡ Claim true ∷ []) → Enters r ops
 enters_err r e ops is w = subst (λ v. Enters v ops) (sym is) w
@@ -36,7 +36,7 @@ opens_so state r l ops sound same never w = record { settles = w; loads = go r s
 
 pub opens_err : (fault : LoadFault) (l : Log) (ops : List Op) → ops ≡ [] → MayLoad (live_of l) (Err fault) → OpensTo (Err fault) l ops
 opens_err fault l ops none loads = subst (OpensTo (Err fault) l) (sym none) (record {
-  settles = record { only = tt; grows = λ s durable stands. nothing_settled s l durable stands; rests = λ s durable stands. tt };
+  settles = record { only = tt; grows = λ s durable stands. nothing_settled s l durable stands; rests = λ s durable stands. tt; durable = λ durable. tt; cleared = tt; same = λ q not. settling_live q not [] l tt };
   loads = loads;
   damaged = λ damage is. refl;
 })

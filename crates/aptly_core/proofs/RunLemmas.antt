@@ -1,74 +1,42 @@
--- One command, committed and then said.
-use Rattle.std.proofs.Common.{◌≡◌, ◌≢◌, inl, inr, ℕ, suc, Bool, true, false, not, List, [], ◌∷◌, ◌++◌, length, take, drop, Option, Some, None, IsTrue, IsSome, Result, Err, unwrap_or, refl, sym, ◌∙◌, ap, subst, append-nil, arith, Ordering, Less, Equal, Greater}
-use Rattle.std.specs.Option.{is_some}
-use Rattle.std.specs.Bool.{nat_le, if◌then◌else◌}
-use Rattle.std.specs.Str.{bytes_eq}
+-- One command: files are taken in, the new state is committed, and then the reply is said.
+use Rattle.std.proofs.Common.{◌≡◌, ◌≢◌, ◌⊎◌, inl, inr, ℕ, List, [], ◌∷◌, ◌++◌, take, drop, All, Option, Some, None, IsTrue, IsSome, IfSome, IfOk, Result, Ok, Err, OnOk, unwrap_or, refl, sym, ◌∙◌, ap, subst, append-nil, append_assoc}
 use Rattle.std.proofs.lemmas.List.{take-append-drop}
-use Rattle.ap_text.specs.Names.{is_name}
 use Rattle.ap_host.specs.declared.host.Op.{Op}
 use Rattle.ap_host.specs.declared.host.Op.TheVariants.{Create, Append, Sync, Rename, Remove, Barrier, Say, Claim}
 use Rattle.ap_host.specs.declared.host.HostErr.{HostErr}
 use Rattle.ap_host.specs.declared.host.HostErr.TheVariants.{Failed, OutOfMemory}
-use Rattle.ap_host.specs.Disk.{Path, Log, extended, said}
+use Rattle.ap_host.specs.Disk.{Path, Files, Log, Disk, disk_of, extended, live_of, said, Durable}
 use Rattle.ap_host.specs.Calls.{Did}
 use Rattle.ap_host.specs.Changes.{EachOp}
-use Rattle.ap_host.proofs.ChangeLemmas.{EachOp-append, EachOp-map, part_each, did_part}
+use Rattle.ap_host.proofs.ChangeLemmas.{EachOp-append, EachOp-map, part_each, did_part, same_after}
+use Rattle.ap_host.proofs.DiskLemmas.{extended-append, extended-none, disk_of-step}
+use Rattle.ap_host.proofs.LegalLemmas.{law_of_live_image}
+use Rattle.command_words.specs.Plain.{PlainCommand}
 use Rattle.run_model.specs.Run.{Outcome, Ran, Grows, AtRest}
 use Rattle.run_model.proofs.Joins.{said-append}
-use Rattle.run_model.proofs.Says.{ran_quiet, ran_front, ran_whole}
-use Rattle.aptly_core.specs.declared.command_words.Command.{Command}
-use Rattle.aptly_core.specs.declared.command_words.Command.TheVariants.{RepoCreate}
-use Rattle.aptly_core.specs.declared.machine_state.Refusal.{Refusal}
-use Rattle.aptly_core.specs.declared.machine_state.Refusal.TheVariants.{BadName, Exists, Limit}
-use Rattle.aptly_core.specs.declared.machine_state.Kind.TheVariants as kinds
-use Rattle.aptly_core.specs.declared.machine_state.Limit.TheVariants as limits
-use Rattle.aptly_core.specs.declared.machine_state.Repo.{Repo}
-use Rattle.aptly_core.specs.Ascending.{put, placed}
-use Rattle.aptly_core.specs.declared.machine_step.Outcome.{Outcome as Made}
-use Rattle.aptly_core.specs.declared.run.RunFault.{RunFault}
-use Rattle.aptly_core.specs.Runs.{RunsOne}
-use Rattle.aptly_core.specs.Commits.{IsCommitting, Saves}
-use Rattle.aptly_core.specs.Machine.{machine, Steps, came, IsWork, IsIdle, is_below_one, IsOnce, AreTargets, Sets, Moves, targets}
-use Rattle.aptly_core.specs.State.{repo_cmp, repo_of}
-use Rattle.aptly_core.specs.Step.{Came, came_to, refusal_of, new_repo, changed}
-use Rattle.aptly_core.specs.Values.{StateView}
-use Rattle.aptly_core.proofs.AscendingLemmas.{turned}
-use Rattle.aptly_core.proofs.RepoLemmas.{repo_total, is_same}
-use Rattle.aptly_core.proofs.CommitLemmas.{SetsOnce, sets_before}
-use Rattle.aptly_core.proofs.Lawful.{lawful}
-
--- one more repository is another state
-by_test : (b : Bool) (r : Repo) (found : Option Repo) → (if b then Some r else found) ≡ None → (b ≡ false) × (found ≡ None)
-by_test true r found e = absurd (cc)
-by_test false r found e = (refl, e)
-
-longer : (name : List ℕ) (repos : List Repo) → repo_of name repos ≡ None → length (put repo_cmp (new_repo name) repos) ≡ suc (length repos)
-longer name [] none = refl
-longer name (r ∷ rs) none = by_order (repo_cmp (new_repo name) r) refl (longer name rs (by_test (bytes_eq r.name name) r (repo_of name rs) none).1)
-  where
-    by_order : (o : Ordering) → repo_cmp (new_repo name) r ≡ o → length (put repo_cmp (new_repo name) rs) ≡ suc (length rs) → length (placed repo_cmp o (new_repo name) r rs (put repo_cmp (new_repo name) rs)) ≡ suc (suc (length rs))
-    by_order Less e more = refl
-    by_order Equal e more = absurd (let yes = is_same r name (turned repo_total (new_repo name) r Equal e) in let not = (by_test (bytes_eq r.name name) r (repo_of name rs) none).0 in let no : true ≡ false = sym yes ∙ not in cc)
-    by_order Greater e more = ap suc more
-
-differs : (s : StateView) (c : Command) → refusal_of s c ≡ None → (changed s c) ≢ s
-differs s (RepoCreate name) none same = by_name (is_name name) none
-  where
-    by_taken : (found : Option Repo) → repo_of name s.repos ≡ found → (if is_some found then Some (Exists kinds.Repo name) else if nat_le 10000 (length s.repos) then Some (Limit limits.Repos) else None) ≡ None → ⊥
-    by_taken None free e = let more = longer name s.repos free in let size = ap (λ (x : StateView). length x.repos) same in omega (arith, more, size)
-    by_taken (Some r) free e = cc
-
-    by_name : (b : Bool) → (if not b then Some (BadName name) else if is_some (repo_of name s.repos) then Some (Exists kinds.Repo name) else if nat_le 10000 (length s.repos) then Some (Limit limits.Repos) else None) ≡ None → ⊥
-    by_name true e = by_taken (repo_of name s.repos) refl e
-    by_name false e = cc
-
--- a command that isn't refused changes the state
-pub changes : (s : StateView) (c : Command) (o : Outcome StateView Refusal) → Steps None s c o → o.refusal ≡ None → o.state ≢ s
-changes s c o step none = go (refusal_of s c) refl step
-  where
-    go : (r : Option Refusal) → refusal_of s c ≡ r → came o ≡ came_to s c r → o.state ≢ s
-    go None e is same = differs s c e (sym (ap (λ (x : Came). x.state) is) ∙ same)
-    go (Some r) e is same = absurd (let no : None ≡ Some r = sym none ∙ ap (λ (x : Came). x.refusal) is in cc)
+use Rattle.run_model.proofs.Growing.{grows_then}
+use Rattle.run_model.proofs.Says.{ran_quiet, ran_front, ran_whole, ran_begun}
+use Rattle.stage_file.specs.Stage.{StageState, is_staged, IsInStep}
+use Rattle.stage_file.proofs.StageLemmas.{live_step_of}
+use Rattle.hash_pool.specs.Names.{is_pooled}
+use Rattle.hash_pool.specs.Growth.{PoolGrows, IsOnce, targets}
+use Rattle.hash_pool.proofs.NameLemmas.{pooled_not_staged, not_both}
+use Rattle.hash_pool.proofs.GrowthLemmas.{targets-append}
+use Rattle.machine_state.specs.declared.refusal.Refusal.{Refusal}
+use Rattle.machine_state.specs.State.{Valid}
+use Rattle.machine_state.specs.Values.{StateView}
+use Rattle.machine_step.specs.declared.outcome.Outcome.{Outcome as Made}
+use Rattle.machine_step.specs.Answers.{IsNew}
+use Rattle.local_repo.specs.Bodies.{HasBody, IsMet}
+use Rattle.aptly_core.specs.declared.fault.RunFault.{RunFault}
+use Rattle.aptly_core.specs.Arrives.{Decides}
+use Rattle.aptly_core.specs.Commits.{IsCommitting, MayCommit, Saves}
+use Rattle.aptly_core.specs.Machine.{machine, store, Steps, IsWork, IsIdle, is_below_one, AreTargets, Sets, Moves}
+use Rattle.aptly_core.specs.Runs.{MayRun, RanOne, RunsOne}
+use Rattle.aptly_core.specs.Store.{root, BodiesApart, Stored}
+use Rattle.aptly_core.proofs.CommitLemmas.{SetsOnce, sets_before, rest_valid}
+use Rattle.aptly_core.proofs.GrowLemmas.{taking_quiet, taking_work, taking_idle, taking_sets, once_all, targets_all, grown_rest, grown_to, here}
+use Rattle.aptly_core.proofs.Lawful.{lawful, keeps}
 
 pub committing_quiet : (a : List Op) → EachOp IsCommitting a → said a ≡ []
 committing_quiet [] each = refl
@@ -126,63 +94,199 @@ words_target (Claim b ∷ a) each = absurd each.0
 pub say_words : {T : Type 0} (bytes : List ℕ) (r : Result T HostErr) (b : List Op) → Did (Say bytes) r b → EachOp IsWord b
 say_words bytes r b d = part_each IsWord (Say bytes) b (λ o is. elim is [ inl e ↦ subst IsWord (sym e) tt | inr e ↦ subst IsWord (sym e.1) tt ]) (did_part (Say bytes) r b d)
 
-pub once_of : (ops : List Op) → SetsOnce ops → IsOnce (targets ops)
-once_of ops (inl e) = subst IsOnce (sym e) tt
-once_of ops (inr e) = subst IsOnce (sym e) (tt, tt)
+-- what files stand for hangs on no inbox
+pub grows_in : (input : Option Files) (s t : StateView) (l : Log) (ops : List Op) → Grows store s t l ops → Grows (machine input) s t l ops
+grows_in input s t l ops g = record { quiet = g.quiet; each = g.each; onward = g.onward }
 
-allowed_of : (l : Log) (ops : List Op) → SetsOnce ops → AreTargets l (targets ops)
-allowed_of l ops (inl e) = subst (AreTargets l) (sym e) tt
-allowed_of l ops (inr e) = subst (AreTargets l) (sym e) (inl refl, tt)
+-- the files of the pool are as they were after a commit
+abbrev pub Ends : Path → Type 0
+Ends p = IsTrue (is_staged p) ⊎ (p ≡ root)
 
-pub saved_said : {T : Type 0} (s : StateView) (new : Option StateView) (r : Result T HostErr) (l : Log) (a : List Op) (saves : Saves s new r l a) (reply : List ℕ) (b : List Op) → b ≡ Say reply ∷ [] → said (a ++ b) ≡ reply
-saved_said s new r l a saves reply b is =
-    said-append a b ∙ ap (λ (t : List ℕ). t ++ said b) (committing_quiet a saves.only) ∙ ap said is ∙ append-nil reply
+committing_live_one : (q : Path) → IsTrue (is_pooled q) → (op : Op) (l : Log) → IsCommitting op → live_of (extended (op ∷ []) l) q ≡ live_of l q
+committing_live_one q is op l w = go op w
+  where
+    not : ¬ Ends q
+    not (inl staged) = not_both (is_staged q) staged (pooled_not_staged q is)
+    not (inr at) = absurd (let no = subst (λ (x : Path). IsTrue (is_pooled x)) at is in cc)
 
-pub saved_work : {T U : Type 0} (s : StateView) (new : Option StateView) (r : Result T HostErr) (l : Log) (a : List Op) (saves : Saves s new r l a) (reply : List ℕ) (v : Result U HostErr) (b : List Op) → Did (Say reply) v b → EachOp IsWork (a ++ b)
-saved_work s new r l a saves reply v b did = EachOp-append IsWork a b (committing_work a saves.only) (words_each IsWork (λ x. tt) b (say_words reply v b did))
+    go : (o : Op) → IsCommitting o → live_of (extended (o ∷ []) l) q ≡ live_of l q
+    go (Create p) w = (same_after Ends l (Create p ∷ []) (inl w, tt)).live q not
+    go (Append p b) w = (same_after Ends l (Append p b ∷ []) (inl w.0, tt)).live q not
+    go (Sync p) w = (same_after Ends l (Sync p ∷ []) (inl w, tt)).live q not
+    go (Rename x y) w = (same_after Ends l (Rename x y ∷ []) ((inl w.0, inr w.1), tt)).live q not
+    go Barrier w = live_step_of l Barrier q
+    go (Remove p) w = absurd w
+    go (Say b) w = absurd w
+    go (Claim b) w = absurd w
 
-module _ {T : Type 0} (l : Log) (s : StateView) (c : Command) (o : Outcome StateView Refusal) (step : Steps None s c o) (new : Option StateView) (is : o.state ≡ unwrap_or new s) (kept : IsSome o.refusal → new ≡ None)
-    (r : Result T HostErr) (a : List Op) (saves : Saves s new r l a) where
+pub committing_live : (q : Path) → IsTrue (is_pooled q) → (a : List Op) (l : Log) → EachOp IsCommitting a → live_of (extended a l) q ≡ live_of l q
+committing_live q is [] l each = ap (λ (x : Log). live_of x q) (extended-none l)
+committing_live q is (op ∷ a) l each =
+    ap (λ (x : Log). live_of x q) (sym (extended-append (op ∷ []) a l)) ∙ committing_live q is a (extended (op ∷ []) l) each.1 ∙ committing_live_one q is op l each.0
+
+-- what is told apart where the pool is as it was
+pub apart_along : (input : Option Files) (f g : Files) → ((q : Path) → IsTrue (is_pooled q) → g q ≡ f q) → BodiesApart input f → BodiesApart input g
+apart_along input f g same apart = record {
+  inbox = apart.inbox;
+  told = apart.told;
+  apart = λ a b x y. apart.apart a b (met a x) (met b y);
+}
+  where
+    met : (bytes : List ℕ) → IsMet g apart.inbox bytes → IsMet f apart.inbox bytes
+    met bytes (inl w) = inl (w.0, w.1, sym (same w.0 w.1) ∙ w.2)
+    met bytes (inr w) = inr w
+
+-- words leave all as it was
+said_durable : (l : Log) (bytes : List ℕ) → Durable l → Durable (extended (Say bytes ∷ []) l)
+said_durable l bytes durable p x may =
+    durable p x (subst (λ (d : Disk). d.may p x) (disk_of-step (Say bytes) l) may) ∙ sym (live_step_of l (Say bytes) p)
+
+pub saved_said : (p a : List Op) (l : Log) → said p ≡ [] → EachOp IsCommitting a → (reply : List ℕ) (b : List Op) → b ≡ Say reply ∷ [] → said ((p ++ a) ++ b) ≡ reply
+saved_said p a l quiet only reply b is =
+    said-append (p ++ a) b ∙ ap (λ (t : List ℕ). t ++ said b) (said-append p a ∙ ap (λ (t : List ℕ). t ++ said a) quiet ∙ committing_quiet a only) ∙ ap said is ∙ append-nil reply
+
+pub saved_work : {U : Type 0} (l : Log) (p a : List Op) → PoolGrows l p → EachOp IsCommitting a → (reply : List ℕ) (v : Result U HostErr) (b : List Op) → Did (Say reply) v b → EachOp IsWork ((p ++ a) ++ b)
+saved_work l p a grows only reply v b did = EachOp-append IsWork (p ++ a) b (EachOp-append IsWork p a (taking_work l p grows.kinds) (committing_work a only)) (words_each IsWork (λ x. tt) b (say_words reply v b did))
+
+pub taken_work : (l : Log) (p a : List Op) → PoolGrows l p → EachOp IsCommitting a → EachOp IsWork (p ++ a)
+taken_work l p a grows only = EachOp-append IsWork p a (taking_work l p grows.kinds) (committing_work a only)
+
+-- a command broke off before its outcome
+pub broke_taking : (input : Option Files) (l : Log) (s : StateView) (c : PlainCommand) (p : List Op) → PoolGrows l p → AtRest store s l → Ran (machine input) None l s (c ∷ []) None p
+broke_taking input l s c p grows rest = ran_begun (machine input) (lawful input) None l s c p (grows_in input s s l p (grown_to s l p grows rest s)) (record {
+  work = taking_work l p grows.kinds;
+  once = grows.once;
+  targets = subst (AreTargets l) (append-nil (targets p)) (targets_all l p [] grows (inl refl));
+  refused = tt;
+  unchanged = tt;
+})
+
+module _ (input : Option Files) (k : Option (List ℕ)) (l : Log) (s : StateView) (c : PlainCommand) (o : Outcome StateView Refusal) (step : Steps input k s c o) (new : Option StateView) (is : o.state ≡ unwrap_or new s) (kept : IsSome o.refusal → new ≡ None) (fresh : IsNew s new)
+    {T : Type 0} (p : List Op) (taken : PoolGrows l p) (before now : StageState) (r : Result T HostErr) (a : List Op) (saves : Saves s new before now r (extended p l) a) where
   -- without a word more, or with some
-  moves : (b : List Op) → EachOp IsWord b → Moves l s c (Some o) (a ++ b)
+  moves : (b : List Op) → EachOp IsWord b → Moves l s c (Some o) ((p ++ a) ++ b)
   moves b words =
       let once = sets_before a b saves.targets (words_target b words) in
+      let all : targets ((p ++ a) ++ b) ≡ targets p ++ targets (a ++ b) = ap targets (append_assoc p a b) ∙ targets-append p (a ++ b) in
       record {
-        work = EachOp-append IsWork a b (committing_work a saves.only) (words_each IsWork (λ x. tt) b words);
-        once = once_of (a ++ b) once;
-        targets = allowed_of l (a ++ b) once;
-        refused = λ some. EachOp-append (IsIdle l) a b (subst (EachOp (IsIdle l)) (sym (saves.nothing (kept some))) tt) (words_each (IsIdle l) (λ x. tt) b words);
-        unchanged = λ same. EachOp-append (λ op. ¬ Sets op) a b (calm new refl o.refusal refl same) (words_each (λ op. ¬ Sets op) (λ x no. no) b words);
+        work = EachOp-append IsWork (p ++ a) b (taken_work l p a taken saves.only) (words_each IsWork (λ x. tt) b words);
+        once = subst IsOnce (sym all) (once_all l p (targets (a ++ b)) taken once);
+        targets = subst (AreTargets l) (sym all) (targets_all l p (targets (a ++ b)) taken once);
+        refused = λ some. EachOp-append (IsIdle l) (p ++ a) b (EachOp-append (IsIdle l) p a (taking_idle l p taken.kinds) (subst (EachOp (IsIdle l)) (sym (saves.nothing (kept some))) tt)) (words_each (IsIdle l) (λ x. tt) b words);
+        unchanged = λ same. EachOp-append (λ op. ¬ Sets op) (p ++ a) b (EachOp-append (λ op. ¬ Sets op) p a (taking_sets l p taken.kinds) (calm new refl same)) (words_each (λ op. ¬ Sets op) (λ x no. no) b words);
       }
     where
-      calm : (n : Option StateView) → new ≡ n → (q : Option Refusal) → o.refusal ≡ q → o.state ≡ s → EachOp (λ op. ¬ Sets op) a
-      calm None e q f same = subst (EachOp (λ op. ¬ Sets op)) (sym (saves.nothing e)) tt
-      calm (Some t) e None f same = absurd (changes s c o step f same)
-      calm (Some t) e (Some q) f same = absurd (let none = kept (subst IsSome (sym f) refl) in let no : Some t ≡ None = sym e ∙ none in cc)
+      calm : (n : Option StateView) → new ≡ n → o.state ≡ s → EachOp (λ op. ¬ Sets op) a
+      calm None e same = subst (EachOp (λ op. ¬ Sets op)) (sym (saves.nothing e)) tt
+      calm (Some t) e same = absurd (subst (IsNew s) e fresh (sym (is ∙ ap (λ (x : Option StateView). unwrap_or x s) e) ∙ same))
 
-  module _ (grows : Grows machine s o.state l a) where
-    pub quietly : Ran machine None l s (c ∷ []) None a
-    quietly = ran_quiet machine lawful None l s c o step a grows (subst (Moves l s c (Some o)) (append-nil a) (moves [] tt))
+  module _ (grows : Grows (machine input) s o.state l (p ++ a)) where
+    pub quietly : Ran (machine input) k l s (c ∷ []) None (p ++ a)
+    quietly = ran_quiet (machine input) (lawful input) k l s c o step (p ++ a) grows (subst (Moves l s c (Some o)) (append-nil (p ++ a)) (moves [] tt))
 
-    none_said : (b : List Op) → b ≡ [] → Ran machine None l s (c ∷ []) None (a ++ b)
-    none_said b none = subst (λ (x : List Op). Ran machine None l s (c ∷ []) None x) (sym (append-nil a) ∙ ap (λ (x : List Op). a ++ x) (sym none)) quietly
+    none_said : (b : List Op) → b ≡ [] → Ran (machine input) k l s (c ∷ []) None ((p ++ a) ++ b)
+    none_said b none = subst (λ (x : List Op). Ran (machine input) k l s (c ∷ []) None x) (sym (append-nil (p ++ a)) ∙ ap (λ (x : List Op). (p ++ a) ++ x) (sym none)) quietly
 
-    pub say_broke : (U : Type 0) (e : HostErr) (b : List Op) → AtRest machine o.state (extended a l) → Did {T = U} (Say o.reply) (Err e) b → Ran machine None l s (c ∷ []) None (a ++ b)
+    pub say_broke : (U : Type 0) (e : HostErr) (b : List Op) → AtRest (machine input) o.state (extended (p ++ a) l) → Did {T = U} (Say o.reply) (Err e) b → Ran (machine input) k l s (c ∷ []) None ((p ++ a) ++ b)
     say_broke U Failed b rest did = elim did [
       | inl none ↦ none_said b none
-      | inr part ↦ subst (λ (x : List Op). Ran machine None l s (c ∷ []) None (a ++ x)) (sym part.1)
-          (ran_front machine lawful None l s c o step a grows rest (take part.0 o.reply) (drop part.0 o.reply) (sym (take-append-drop part.0 o.reply)) (moves (Say (take part.0 o.reply) ∷ []) (tt, tt)))
+      | inr part ↦ subst (λ (x : List Op). Ran (machine input) k l s (c ∷ []) None ((p ++ a) ++ x)) (sym part.1)
+          (ran_front (machine input) (lawful input) k l s c o step (p ++ a) grows rest (take part.0 o.reply) (drop part.0 o.reply) (sym (take-append-drop part.0 o.reply)) (moves (Say (take part.0 o.reply) ∷ []) (tt, tt)))
     ]
     say_broke U OutOfMemory b rest did = none_said b did
 
-    pub say_done : (b : List Op) → AtRest machine o.state (extended a l) → b ≡ Say o.reply ∷ [] → Ran machine None l s (c ∷ []) (Some (o.state, o.refusal)) (a ++ b)
-    say_done b rest told = subst (λ (x : List Op). Ran machine None l s (c ∷ []) (Some (o.state, o.refusal)) (a ++ x)) (sym told)
-        (ran_whole machine lawful None l s c o step a grows rest o.reply [] (sym (append-nil o.reply)) (moves (Say o.reply ∷ []) (tt, tt)) refl)
+    pub say_done : (b : List Op) → AtRest (machine input) o.state (extended (p ++ a) l) → b ≡ Say o.reply ∷ [] → Ran (machine input) k l s (c ∷ []) (Some (o.state, o.refusal)) ((p ++ a) ++ b)
+    say_done b rest told = subst (λ (x : List Op). Ran (machine input) k l s (c ∷ []) (Some (o.state, o.refusal)) ((p ++ a) ++ x)) (sym told)
+        (ran_whole (machine input) (lawful input) k l s c o step (p ++ a) grows rest o.reply [] (sym (append-nil o.reply)) (moves (Say o.reply ∷ []) (tt, tt)) refl)
 
 -- an outcome of the code as one of a run
 abbrev pub made : StateView → Made → Outcome StateView Refusal
 made s out = record { reply = out.reply; refusal = out.refusal; state = unwrap_or out.state s }
 
+-- where the new state may be committed
+module _ (input : Option Files) (l : Log) (s : StateView) (before mid : StageState) (out : Made) (p : List Op) (decides : Decides input s before mid (Ok out) l p) (may : MayRun input s before l) (next : Valid (unwrap_or out.state s)) where
+  pub ready : MayCommit s (unwrap_or out.state s) mid (extended p l)
+  ready = record {
+    rest = grown_rest s l p decides.grows may.rest;
+    step = decides.step may.step;
+    next = record { valid = next; bodies = go out.state refl (decides.bodies (here s l p decides.grows may.rest).stored may.apart) };
+  }
+    where
+      go : (n : Option StateView) → out.state ≡ n → IfSome out.state (λ t. All (HasBody (live_of (extended p l))) t.known) → All (HasBody (live_of (extended p l))) (unwrap_or out.state s).known
+      go None e w = subst (λ (x : Option StateView). All (HasBody (live_of (extended p l))) (unwrap_or x s).known) (sym e) ((grown_rest s l p decides.grows may.rest) (live_of (extended p l)) (law_of_live_image (extended p l))).stored.bodies
+      go (Some t) e w = subst (λ (x : Option StateView). All (HasBody (live_of (extended p l))) (unwrap_or x s).known) (sym e) (subst (λ (x : Option StateView). IfSome x (λ t. All (HasBody (live_of (extended p l))) t.known)) e w)
+
+  module _ {T : Type 0} (now : StageState) (r : Result T HostErr) (a : List Op) (saves : Saves s out.state mid now r (extended p l) a) where
+    pub all_grows : Grows (machine input) s (unwrap_or out.state s) l (p ++ a)
+    all_grows = grows_in input s (unwrap_or out.state s) l (p ++ a) (grows_then store s (unwrap_or out.state s) l p a (grown_to s l p decides.grows may.rest (unwrap_or out.state s)) (saves.grows ready))
+
+    pub all_rests : (v : T) → r ≡ Ok v → AtRest (machine input) (unwrap_or out.state s) (extended (p ++ a) l)
+    all_rests v e = subst (AtRest (machine input) (unwrap_or out.state s)) (extended-append p a l) (on r e (saves.rests ready))
+      where
+        on : (x : Result T HostErr) → x ≡ Ok v → OnOk x (AtRest store (unwrap_or out.state s) (extended a (extended p l))) → AtRest store (unwrap_or out.state s) (extended a (extended p l))
+        on (Ok y) e w = w
+        on (Err y) e w = absurd (cc)
+
+    -- a next command may begin
+    pub all_on : (v : T) → r ≡ Ok v → (reply : List ℕ) (b : List Op) → b ≡ Say reply ∷ [] → AtRest (machine input) (unwrap_or out.state s) (extended ((p ++ a) ++ b) l) → MayRun input (unwrap_or out.state s) now (extended ((p ++ a) ++ b) l)
+    all_on v e reply b told rest = record {
+      rest = rest;
+      step = λ clean. subst Durable whole (said_durable (extended a (extended p l)) reply (on r e (saves.step ready) clean));
+      apart = apart_along input (live_of (extended p l)) (live_of (extended ((p ++ a) ++ b) l)) (λ q is. ap (λ (x : Log). live_of x q) (sym whole) ∙ live_step_of (extended a (extended p l)) (Say reply) q ∙ committing_live q is a (extended p l) saves.only) (decides.apart may.apart);
+    }
+      where
+        whole : extended (Say reply ∷ []) (extended a (extended p l)) ≡ extended ((p ++ a) ++ b) l
+        whole = ap (extended (Say reply ∷ [])) (extended-append p a l) ∙ extended-append (p ++ a) (Say reply ∷ []) l ∙ ap (λ (x : List Op). extended ((p ++ a) ++ x) l) (sym told)
+
+        on : (x : Result T HostErr) → x ≡ Ok v → OnOk x (IsInStep now (extended a (extended p l))) → IsInStep now (extended a (extended p l))
+        on (Ok y) e w = w
+        on (Err y) e w = absurd (cc)
+
 -- a command that broke off
-pub runs_err : (s : StateView) (c : Command) (r : Result (StateView × Option Refusal) RunFault) (e : RunFault) (l : Log) (ops : List Op) → r ≡ Err e → EachOp IsWork ops → (AtRest machine s l → Ran machine None l s (c ∷ []) None ops) → RunsOne s c r l ops
-runs_err s c r e l ops is work ran = subst (λ v. RunsOne s c v l ops) (sym is) (record { work = work; says = λ valid. tt; ran = ran })
+pub runs_err : (input : Option Files) (Told : Option (List ℕ) → Type 0) (s : StateView) (c : PlainCommand) (before now : StageState) (r : Result (StateView × Option Refusal) RunFault) (e : RunFault) (l : Log) (ops : List Op) → r ≡ Err e → EachOp IsWork ops
+    → (MayRun input s before l → (large : Option (List ℕ)) × Told large × Ran (machine input) large l s (c ∷ []) None ops) → RunsOne input Told s c before now r l ops
+runs_err input Told s c before now r e l ops is work ran = subst (λ v. RunsOne input Told s c before now v l ops) (sym is) (record { work = work; says = λ valid. tt; ran = ran; on = λ may. tt })
+
+-- decided, and then saved
+pub record Decided {T : Type 0} (input : Option Files) (s : StateView) (before mid now : StageState) (out : Made) (r : Result T HostErr) (l : Log) (ops : List Op) : Type 0 where
+  pub taken : List Op
+  pub saved : List Op
+  pub cut : taken ++ saved ≡ ops
+  pub decides : Decides input s before mid (Ok out) l taken
+  pub saves : Saves s out.state mid now r (extended taken l) saved
+
+pub decided_then_saved : {T : Type 0} (input : Option Files) (s : StateView) (before mid now : StageState) (out : Made) (r : Result T HostErr) (l : Log) (p a : List Op) → Decides input s before mid (Ok out) l p → Saves s out.state mid now r (extended p l) a → Decided input s before mid now out r l (p ++ a)
+decided_then_saved input s before mid now out r l p a d w = record { taken = p; saved = a; cut = refl; decides = d; saves = w }
+
+-- the command that ended
+pub runs_ok : {T : Type 0} (input : Option Files) (Told : Option (List ℕ) → Type 0) (s : StateView) (c : PlainCommand) (before mid now : StageState) (out : Made) (v : T) (r : Result T HostErr) → r ≡ Ok v → (k : Valid s → (large : Option (List ℕ)) × Told large × Steps input large s c (made s out)) → (IsSome out.refusal → out.state ≡ None) → (Valid s → IsNew s out.state)
+    → (l : Log) (ops b : List Op) → Decided input s before mid now out r l ops → b ≡ Say out.reply ∷ [] → {U : Type 0} (x : Result U HostErr) → Did (Say out.reply) x b → RunsOne input Told s c before now (Ok (unwrap_or out.state s, out.refusal)) l (ops ++ b)
+runs_ok input Told s c before mid now out v r ok comes kept fresh l ops b x told y did = subst (λ (z : List Op). RunsOne input Told s c before now (Ok (unwrap_or out.state s, out.refusal)) l (z ++ b)) x.cut (record {
+  work = saved_work l p a d.grows w.only out.reply y b did;
+  says = λ valid.
+      let step = comes valid in
+      (step.0, step.1, subst (λ (t : List ℕ). Steps input step.0 s c (record { reply = t; refusal = out.refusal; state = unwrap_or out.state s })) (sym (saved_said p a l (taking_quiet l p d.grows.kinds) w.only out.reply b told)) step.2);
+  ran = λ may. let step = comes (valid may) in (step.0, step.1, done may step.0 step.2);
+  on = λ may. let step = comes (valid may) in all_on input l s before mid out p d may (next may) now r a w v ok out.reply b told (done may step.0 step.2).ends.3;
+})
+  where
+    p : List Op
+    p = x.taken
+
+    a : List Op
+    a = x.saved
+
+    d : Decides input s before mid (Ok out) l p
+    d = x.decides
+
+    w : Saves s out.state mid now r (extended p l) a
+    w = x.saves
+
+    valid : MayRun input s before l → Valid s
+    valid may = rest_valid s l may.rest
+
+    next : MayRun input s before l → Valid (unwrap_or out.state s)
+    next may = let step = comes (valid may) in keeps input step.0 s c (made s out) (valid may) step.2
+
+    done : (may : MayRun input s before l) (k : Option (List ℕ)) → Steps input k s c (made s out) → Ran (machine input) k l s (c ∷ []) (Some (unwrap_or out.state s, out.refusal)) ((p ++ a) ++ b)
+    done may k step = say_done input k l s c (made s out) step out.state refl kept (fresh (valid may)) p d.grows mid now r a w (all_grows input l s before mid out p d may (next may) now r a w) b (all_rests input l s before mid out p d may (next may) now r a w v ok) told

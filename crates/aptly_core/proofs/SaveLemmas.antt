@@ -1,30 +1,37 @@
 -- A commit where there is a new state.
-use Rattle.std.proofs.Common.{◌≡◌, List, [], Option, Some, None, Result, inl, refl, sym, subst}
+use Rattle.std.proofs.Common.{◌≡◌, List, [], Option, Some, None, Result, Ok, Err, OnOk, unwrap_or, inl, refl, sym, ap, subst}
 use Rattle.ap_host.specs.declared.host.Op.{Op}
 use Rattle.ap_host.specs.declared.host.HostErr.{HostErr}
-use Rattle.ap_host.specs.Disk.{Log}
+use Rattle.ap_host.specs.Disk.{Log, extended, Durable}
 use Rattle.ap_host.proofs.DiskLemmas.{extended-none}
+use Rattle.stage_file.specs.Stage.{StageState, IsInStep}
 use Rattle.stage_file.proofs.StageLemmas.{on_ok}
 use Rattle.run_model.specs.Run.{AtRest}
+use Rattle.machine_state.specs.Values.{StateView}
 use Rattle.aptly_core.specs.Commits.{Commits, Saves}
-use Rattle.aptly_core.specs.Machine.{machine}
-use Rattle.aptly_core.specs.Values.{StateView}
-use Rattle.aptly_core.proofs.CommitLemmas.{rest_holds, nothing_phase}
+use Rattle.aptly_core.specs.Machine.{store}
+use Rattle.aptly_core.proofs.ReadyLemmas.{commits_begun}
 
-pub saves_none : {T : Type 0} (s : StateView) (new : Option StateView) → new ≡ None → (r : Result T HostErr) (l : Log) → Saves s new r l []
-saves_none s new is r l = subst (λ (n : Option StateView). Saves s n r l []) (sym is) (record {
+pub saves_none : {T : Type 0} (s : StateView) (new : Option StateView) → new ≡ None → (st : StageState) (r : Result T HostErr) (l : Log) → Saves s new st st r l []
+saves_none s new is st r l = subst (λ (n : Option StateView). Saves s n st st r l []) (sym is) (record {
   only = tt;
   targets = inl refl;
   nothing = λ none. refl;
-  grows = λ rest valid. let h = rest_holds s l rest in nothing_phase s s valid valid l [] (λ x may. inl (h.0 x may), h.1) refl;
-  rests = λ rest valid. on_ok r (subst (AtRest machine s) (sym (extended-none l)) rest);
+  grows = λ may. commits_begun s s l may.rest;
+  rests = λ may. on_ok r (subst (AtRest store s) (sym (extended-none l)) may.rest);
+  step = λ may. on_ok r (subst (IsInStep st) (sym (extended-none l)) may.step);
 })
 
-pub saves_some : {T : Type 0} (s : StateView) (new : Option StateView) (t : StateView) → new ≡ Some t → (r : Result T HostErr) (l : Log) (ops : List Op) → Commits s t r l ops → Saves s new r l ops
-saves_some s new t is r l ops w = subst (λ (n : Option StateView). Saves s n r l ops) (sym is) (record {
+pub saves_some : {T : Type 0} (s : StateView) (new : Option StateView) (t : StateView) → new ≡ Some t → (before now : StageState) (r : Result T HostErr) (l : Log) (ops : List Op) → Commits s t before r l ops → Saves s new before now r l ops
+saves_some {T = T} s new t is before now r l ops w = subst (λ (n : Option StateView). Saves s n before now r l ops) (sym is) (record {
   only = w.only;
   targets = w.targets;
   nothing = λ no. absurd (cc);
   grows = w.grows;
   rests = w.rests;
+  step = λ may. go r w.durable;
 })
+  where
+    go : (v : Result T HostErr) → OnOk v (Durable (extended ops l)) → OnOk v (IsInStep now (extended ops l))
+    go (Ok v) d = λ clean. d
+    go (Err e) d = tt

@@ -1,5 +1,5 @@
 -- What a stop within the settling may leave.
-use Rattle.std.proofs.Common.{◌≡◌, ◌==◌, ◌&&◌, inl, inr, ℕ, Bool, true, false, List, [], ◌∷◌, ◌++◌, IsTrue, MatchBool, Result, Ok, Err, OnOk, nat_eq, slice_index, length, codes, refl, sym, ◌∙◌, ap, subst}
+use Rattle.std.proofs.Common.{◌≡◌, ◌==◌, ◌&&◌, ◌||◌, IsFalse, None, inl, inr, ℕ, Bool, true, false, List, [], ◌∷◌, ◌++◌, IsTrue, MatchBool, Result, Ok, Err, OnOk, nat_eq, slice_index, length, codes, refl, sym, ◌∙◌, ap, subst}
 use Rattle.std.specs.List.{starts_with}
 use Rattle.std.proofs.lemmas.Bool.{eqb-true}
 use Rattle.ap_text.specs.Paths.{is_below}
@@ -16,11 +16,14 @@ use Rattle.stage_file.specs.Stage.{StageState, is_staged, IsInStep, IsMarked, Cl
 use Rattle.stage_file.proofs.StageLemmas.{live_step_of}
 use Rattle.run_model.specs.Run.{Grows, AtRest}
 use Rattle.run_model.proofs.Growing.{grows_then}
-use Rattle.aptly_core.specs.Machine.{machine, IsWork, targets}
+use Rattle.hash_pool.specs.Growth.{targets}
+use Rattle.hash_pool.specs.Names.{is_pooled}
+use Rattle.hash_pool.proofs.NameLemmas.{pooled_not_staged, not_both}
+use Rattle.aptly_core.specs.Machine.{store, IsWork}
 use Rattle.aptly_core.specs.Opens.{IsSettling, SettlesTo}
 use Rattle.aptly_core.specs.Store.{root, IsRootOf, Open}
-use Rattle.aptly_core.specs.Values.{StateView}
-use Rattle.aptly_core.proofs.CommitLemmas.{is_public, Holds, open_along, apart_phase, nothing_phase, barrier_phase}
+use Rattle.machine_state.specs.Values.{StateView}
+use Rattle.aptly_core.proofs.CommitLemmas.{is_public, is_kept, At, Holds, at_open, open_along, apart_phase, nothing_phase, barrier_phase}
 
 clash : {A : Type 0} → false ≡ true → A
 clash h = absurd (cc)
@@ -28,7 +31,7 @@ clash h = absurd (cc)
 abbrev pub P : Path → Type 0
 P q = IsTrue (is_staged q)
 
-root_not_staged : ¬ P root
+pub root_not_staged : ¬ P root
 root_not_staged h = clash h
 
 front : (a b : Bool) → (a && b) ≡ true → a ≡ true
@@ -46,6 +49,13 @@ public_not_staged (b ∷ q) is staged =
     let s : b ≡ 115 = begins b 115 q (codes "tage") staged in
     let no : 112 ≡ 115 = sym p ∙ s in
     clash (ap (λ (x : ℕ). x == 115) no)
+
+pub kept_not_staged : (q : Path) → IsTrue (is_kept q) → ¬ P q
+kept_not_staged q is staged = go (is_public q) refl is
+  where
+    go : (b : Bool) → is_public q ≡ b → (b || is_pooled q) ≡ true → ⊥
+    go true e kept = public_not_staged q e staged
+    go false e kept = not_both (is_staged q) staged (pooled_not_staged q kept)
 
 pub clears_each : (Q : Op → Type 0) → ((p : Path) → IsTrue (is_staged p) → Q (Remove p)) → (a : List Op) → EachOp ClearsStaged a → EachOp Q a
 clears_each Q f a each = EachOp-map ClearsStaged Q one a each
@@ -116,17 +126,17 @@ module _ (s : StateView) (l : Log) (durable : Durable l) (stands : Open (live_of
   pub holds_durable : Holds s s l
   holds_durable = (
     λ x may. inl (subst (λ (y : Content). IsRootOf y s) (sym (durable root x may)) stands.stored.root),
-    λ q x is may. durable q x may ∙ stands.public q is,
+    λ q x is may. subst (At s s q) (sym (durable q x may)) (at_open s (live_of l) q stands),
   )
 
   touches : (a : List Op) → EachOp ClearsStaged a → EachOp (TouchesOnly P) a
   touches a each = clears_each (TouchesOnly P) (λ p is. is) a each
 
-  pub nothing_settled : Grows machine s s l []
+  pub nothing_settled : Grows store s s l []
   nothing_settled = nothing_phase s s stands.stored.valid stands.stored.valid l [] holds_durable refl
 
-  pub clear_phase : (a : List Op) → EachOp ClearsStaged a → Grows machine s s l a
-  clear_phase a each = apart_phase s s stands.stored.valid stands.stored.valid P l a holds_durable (clears_quiet a each) (touches a each) root_not_staged public_not_staged
+  pub clear_phase : (a : List Op) → EachOp ClearsStaged a → Grows store s s l a
+  clear_phase a each = apart_phase s s stands.stored.valid stands.stored.valid P l a holds_durable (clears_quiet a each) (touches a each) root_not_staged kept_not_staged
 
   module _ {T : Type 0} (a b : List Op) (each : EachOp ClearsStaged a) (st : StageState) (r : Result T HostErr) (barriers : Barriers st r (extended a l) b) where
     abbrev pub m : Log
@@ -138,18 +148,18 @@ module _ (s : StateView) (l : Log) (durable : Durable l) (stands : Open (live_of
     at_mid : Holds s s m
     at_mid = (
       λ x may. holds_durable.0 x (same.may root x root_not_staged may),
-      λ q x is may. holds_durable.1 q x is (same.may q x (public_not_staged q is) may),
+      λ q x is may. holds_durable.1 q x is (same.may q x (kept_not_staged q is) may),
     )
 
-    second : Grows machine s s m b
+    second : Grows store s s m b
     second = go st.touched barriers.made
       where
-        go : (x : Bool) → MatchBool x (Did Barrier r b) (b ≡ []) → Grows machine s s m b
+        go : (x : Bool) → MatchBool x (Did Barrier r b) (b ≡ []) → Grows store s s m b
         go true d = barrier_phase s s stands.stored.valid stands.stored.valid m b r at_mid d
         go false d = nothing_phase s s stands.stored.valid stands.stored.valid m b at_mid d
 
-    pub settle_phase : Grows machine s s l (a ++ b)
-    settle_phase = grows_then machine s s l a b (clear_phase a each) second
+    pub settle_phase : Grows store s s l (a ++ b)
+    settle_phase = grows_then store s s l a b (clear_phase a each) second
 
     -- a barrier, made or not, leaves what reads give
     live_barrier : (v : T) → r ≡ Ok v → (q : Path) → live_of (extended b m) q ≡ live_of m q
@@ -159,7 +169,7 @@ module _ (s : StateView) (l : Log) (durable : Durable l) (stands : Open (live_of
         go true d = ap (λ (o : List Op). live_of (extended o m) q) (subst (λ v. Did Barrier v b) is d) ∙ live_step_of m Barrier q
         go false d = ap (λ (o : List Op). live_of (extended o m) q) d ∙ ap (λ (x : Log). live_of x q) (extended-none m)
 
-    pub settle_rest : (old : StageState) → IsMarked old st a → OnOk r (AtRest machine s (extended (a ++ b) l))
+    pub settle_rest : (old : StageState) → IsMarked old st a → OnOk r (AtRest store s (extended (a ++ b) l))
     settle_rest old marked = go r refl barriers.durable
       where
         in_step : IsInStep st m
@@ -168,17 +178,73 @@ module _ (s : StateView) (l : Log) (durable : Durable l) (stands : Open (live_of
           | inr none ↦ subst (λ (o : List Op). Durable (extended o l)) (sym none.0) (subst Durable (sym (extended-none l)) durable)
         ]
 
-        go : (v : Result T HostErr) → r ≡ v → OnOk v (IsInStep st m → Durable (extended b m)) → OnOk v (AtRest machine s (extended (a ++ b) l))
-        go (Ok v) is d = subst (AtRest machine s) (extended-append a b l) (λ f image.
+        go : (v : Result T HostErr) → r ≡ v → OnOk v (IsInStep st m → Durable (extended b m)) → OnOk v (AtRest store s (extended (a ++ b) l))
+        go (Ok v) is d = subst (AtRest store s) (extended-append a b l) (λ f image.
             let there = durable_image (extended b m) (d in_step) f image in
-            open_along s (live_of l) f (sym (there root ∙ live_barrier v is root ∙ same.live root root_not_staged)) (λ q at. sym (there q ∙ live_barrier v is q ∙ same.live q (public_not_staged q at))) stands)
+            open_along s (live_of l) f (sym (there root ∙ live_barrier v is root ∙ same.live root root_not_staged)) (λ q at. sym (there q ∙ live_barrier v is q ∙ same.live q (kept_not_staged q at))) stands)
         go (Err e) is d = tt
 
+-- whatever was staged, all else is as it was
+settling_live_one : (q : Path) → IsFalse (is_staged q) → (op : Op) (l : Log) → IsSettling op → live_of (extended (op ∷ []) l) q ≡ live_of l q
+settling_live_one q not (Remove p) l w = (same_after P l (Remove p ∷ []) (w, tt)).live q (λ is. not_both (is_staged q) is not)
+settling_live_one q not Barrier l w = live_step_of l Barrier q
+settling_live_one q not (Create p) l w = absurd w
+settling_live_one q not (Append p b) l w = absurd w
+settling_live_one q not (Sync p) l w = absurd w
+settling_live_one q not (Rename a b) l w = absurd w
+settling_live_one q not (Say b) l w = absurd w
+settling_live_one q not (Claim b) l w = absurd w
+
+pub settling_live : (q : Path) → IsFalse (is_staged q) → (a : List Op) (l : Log) → EachOp IsSettling a → live_of (extended a l) q ≡ live_of l q
+settling_live q not [] l each = ap (λ (x : Log). live_of x q) (extended-none l)
+settling_live q not (op ∷ a) l each =
+    ap (λ (x : Log). live_of x q) (sym (extended-append (op ∷ []) a l)) ∙ settling_live q not a (extended (op ∷ []) l) each.1 ∙ settling_live_one q not op l each.0
+
+-- a stage that clears and makes its barrier leaves all durable, and no staged file
+module _ {T : Type 0} (l : Log) (a b : List Op) (old st : StageState) (marked : IsMarked old st a) (r : Result T HostErr) (barriers : Barriers st r (extended a l) b) where
+  pub settle_durable : Durable l → OnOk r (Durable (extended (a ++ b) l))
+  settle_durable durable = go r barriers.durable
+    where
+      in_step : IsInStep st (extended a l)
+      in_step clean = elim marked [
+        | inl touching ↦ absurd (let no : true ≡ false = sym touching ∙ clean in cc)
+        | inr none ↦ subst (λ (o : List Op). Durable (extended o l)) (sym none.0) (subst Durable (sym (extended-none l)) durable)
+      ]
+
+      go : (v : Result T HostErr) → OnOk v (IsInStep st (extended a l) → Durable (extended b (extended a l))) → OnOk v (Durable (extended (a ++ b) l))
+      go (Ok v) d = subst Durable (extended-append a b l) (d in_step)
+      go (Err e) d = tt
+
+  pub settle_cleared : ((q : Path) → IsTrue (is_staged q) → live_of (extended a l) q ≡ None) → OnOk r ((q : Path) → IsTrue (is_staged q) → live_of (extended (a ++ b) l) q ≡ None)
+  settle_cleared cleared = go r barriers.made
+    where
+      same : (x : Bool) (v : T) → MatchBool x (Did {T = T} Barrier (Ok v) b) (b ≡ []) → (q : Path) → live_of (extended b (extended a l)) q ≡ live_of (extended a l) q
+      same true v d q = ap (λ (o : List Op). live_of (extended o (extended a l)) q) d ∙ live_step_of (extended a l) Barrier q
+      same false v d q = ap (λ (o : List Op). live_of (extended o (extended a l)) q) d ∙ ap (λ (x : Log). live_of x q) (extended-none (extended a l))
+
+      go : (v : Result T HostErr) → MatchBool st.touched (Did Barrier v b) (b ≡ []) → OnOk v ((q : Path) → IsTrue (is_staged q) → live_of (extended (a ++ b) l) q ≡ None)
+      go (Ok v) d = λ q is. ap (λ (x : Log). live_of x q) (sym (extended-append a b l)) ∙ same st.touched v d q ∙ cleared q is
+      go (Err e) d = tt
+
 -- a settling that broke off
-pub settles_err : {T E : Type 0} (r : Result T E) (e : E) (l : Log) (ops : List Op) → r ≡ Err e → EachOp IsSettling ops → ((s : StateView) → Durable l → Open (live_of l) s → Grows machine s s l ops) → SettlesTo r l ops
-settles_err r e l ops is only grows = record { only = only; grows = grows; rests = λ s durable stands. subst (λ v. OnOk v (AtRest machine s (extended ops l))) (sym is) tt }
+pub settles_err : {T E : Type 0} (r : Result T E) (e : E) (l : Log) (ops : List Op) → r ≡ Err e → EachOp IsSettling ops → ((s : StateView) → Durable l → Open (live_of l) s → Grows store s s l ops) → SettlesTo r l ops
+settles_err r e l ops is only grows = record {
+  only = only;
+  grows = grows;
+  rests = λ s durable stands. subst (λ v. OnOk v (AtRest store s (extended ops l))) (sym is) tt;
+  durable = λ durable. subst (λ v. OnOk v (Durable (extended ops l))) (sym is) tt;
+  cleared = subst (λ v. OnOk v ((q : Path) → IsTrue (is_staged q) → live_of (extended ops l) q ≡ None)) (sym is) tt;
+  same = λ q not. settling_live q not ops l only;
+}
 
 -- the same of another result
 pub settles_as : {T U E F : Type 0} (r : Result T E) (v : Result U F) (l : Log) (ops : List Op) → OnOk v ((x : T) × (r ≡ Ok x)) → SettlesTo r l ops → SettlesTo v l ops
-settles_as r (Ok x) l ops was w = record { only = w.only; grows = w.grows; rests = λ s durable stands. subst (λ y. OnOk y (AtRest machine s (extended ops l))) was.1 (w.rests s durable stands) }
-settles_as r (Err e) l ops was w = record { only = w.only; grows = w.grows; rests = λ s durable stands. tt }
+settles_as r (Ok x) l ops was w = record {
+  only = w.only;
+  grows = w.grows;
+  rests = λ s durable stands. subst (λ y. OnOk y (AtRest store s (extended ops l))) was.1 (w.rests s durable stands);
+  durable = λ durable. subst (λ y. OnOk y (Durable (extended ops l))) was.1 (w.durable durable);
+  cleared = subst (λ y. OnOk y ((q : Path) → IsTrue (is_staged q) → live_of (extended ops l) q ≡ None)) was.1 w.cleared;
+  same = w.same;
+}
+settles_as r (Err e) l ops was w = record { only = w.only; grows = w.grows; rests = λ s durable stands. tt; durable = λ durable. tt; cleared = tt; same = w.same }

@@ -5,19 +5,20 @@ use Rattle.ap_host.specs.declared.host.Op.TheVariants.{Barrier, Say, Claim}
 use Rattle.ap_host.specs.Disk.{Files, Log, live_of, said}
 use Rattle.ap_host.specs.Changes.{EachOp}
 use Rattle.run_model.specs.Run.{IsFront}
-use Rattle.run_model.specs.Call.{Entry, RanAll}
-use Rattle.aptly_core.specs.declared.command_words.Command.{Command}
-use Rattle.aptly_core.specs.declared.machine_state.Refusal.{Refusal}
+use Rattle.run_model.specs.Call.{Entry, RanAll, HandOverLaw}
+use Rattle.command_words.specs.Plain.{PlainCommand}
+use Rattle.command_words.specs.Commands as words_spell
+use Rattle.command_words.specs.Commands.{IsUsagePlace}
+use Rattle.machine_state.specs.declared.refusal.Refusal.{Refusal}
+use Rattle.machine_state.specs.Values.{StateView}
+use Rattle.reply_text.specs.Refusals.{usage_line}
 use Rattle.aptly_core.specs.declared.status.Damage.{Damage}
 use Rattle.aptly_core.specs.declared.status.Status.{Status}
 use Rattle.aptly_core.specs.declared.status.Status.TheVariants.{Done, Refused, Usage, HostFault, InboxFault, OutOfMemory, Damaged, Busy}
-use Rattle.aptly_core.specs.Machine.{machine, IsWork, IsTold}
+use Rattle.aptly_core.specs.Machine.{machine, IsWork}
 use Rattle.aptly_core.specs.Opens.{IsDamagedOrFault}
-use Rattle.aptly_core.specs.Replies.{usage_line}
 use Rattle.aptly_core.specs.Runs.{EndsWith, SaysRefusal}
-use Rattle.aptly_core.specs.Store.{IsDamage, Sound, SoundForNone, Stored}
-use Rattle.aptly_core.specs.Values.{StateView}
-use Rattle.aptly_core.specs.Words.{Commands, IsUsagePlace}
+use Rattle.aptly_core.specs.Store.{IsDamage, Sound, SoundForNone, Stored, RootApart, Apart}
 
 -- Nothing, or a claim that wasn't got and nothing more, or one that was got and then no other. Behind it files are written
 -- below `stage/` alone, in pieces of at most 65,536 bytes, and renamed from there.
@@ -34,29 +35,29 @@ IsSaid (Say bytes) = Unit {0}
 IsSaid _ = ⊥
 
 -- what a whole call that ends with this status did, from an entry for s
-abbrev pub CallTo : Option (List ℕ) → Log → StateView → StateView → List Command → Status → List Op → Type 0
-CallTo large l s t commands Done ops = (end : StateView) × RanAll machine large l s t commands (Some (end, None)) ops
-CallTo large l s t commands (Refused refusal) ops = (end : StateView) × RanAll machine large l s t commands (Some (end, Some refusal)) ops
-CallTo large l s t commands HostFault ops = RanAll machine large l s t commands None ops
-CallTo large l s t commands InboxFault ops = RanAll machine large l s t commands None ops
-CallTo large l s t commands OutOfMemory ops = RanAll machine large l s t commands None ops
-CallTo large l s t commands (Usage place) ops = ⊥
-CallTo large l s t commands (Damaged damage) ops = ⊥
-CallTo large l s t commands Busy ops = (ops ≡ Claim false ∷ []) × RanAll machine large l s t commands None ops
+abbrev pub CallTo : Option Files → Option (List ℕ) → Log → StateView → StateView → List PlainCommand → Status → List Op → Type 0
+CallTo input large l s t commands Done ops = (end : StateView) × RanAll (machine input) large l s t commands (Some (end, None)) ops
+CallTo input large l s t commands (Refused refusal) ops = (end : StateView) × RanAll (machine input) large l s t commands (Some (end, Some refusal)) ops
+CallTo input large l s t commands HostFault ops = RanAll (machine input) large l s t commands None ops
+CallTo input large l s t commands InboxFault ops = RanAll (machine input) large l s t commands None ops
+CallTo input large l s t commands OutOfMemory ops = RanAll (machine input) large l s t commands None ops
+CallTo input large l s t commands (Usage place) ops = ⊥
+CallTo input large l s t commands (Damaged damage) ops = ⊥
+CallTo input large l s t commands Busy ops = (ops ≡ Claim false ∷ []) × RanAll (machine input) large l s t commands None ops
 
 -- The call of these commands.
-pub record Called (commands : List Command) (status : Status) (l : Log) (ops : List Op) : Type 0 where
+pub record Called (input : Option Files) (Told : Option (List ℕ) → Type 0) (commands : List PlainCommand) (status : Status) (l : Log) (ops : List Op) : Type 0 where
   -- whatever the store held
   pub first : ClaimsFirst ops
   pub busy : (status ≡ Busy) ↔ (ops ≡ Claim false ∷ [])
   -- a damaged store was claimed and left as it was. It stands for no state, and the damage is there
-  pub damaged : (damage : Damage) → status ≡ Damaged damage → (ops ≡ Claim true ∷ Barrier ∷ []) × SoundForNone (live_of l) × IsDamage (live_of l) damage
+  pub damaged : (damage : Damage) → status ≡ Damaged damage → (ops ≡ Claim true ∷ Barrier ∷ []) × (RootApart (live_of l) → SoundForNone (live_of l) × IsDamage (live_of l) damage)
   -- and one that stands for no state is told to be damaged, but for a fault
   pub none : SoundForNone (live_of l) → GotClaim ops → IsDamagedOrFault status
   -- the refused command's line was said, and it is refused so
-  pub refused : (refusal : Refusal) → status ≡ Refused refusal → SaysRefusal refusal ops × ((s : StateView) → Sound (live_of l) s → EndsWith s commands status)
+  pub refused : (refusal : Refusal) → status ≡ Refused refusal → SaysRefusal refusal ops × (RootApart (live_of l) → (s : StateView) → Sound (live_of l) s → EndsWith input Told s commands status)
   -- from any entry: the run of these commands
-  pub run : (s t : StateView) → Entry machine l s t → (large : Option (List ℕ)) × IsTold large × CallTo large l s t commands status ops
+  pub run : Apart input (live_of l) → (s t : StateView) → Entry (machine input) l s t → (large : Option (List ℕ)) × Told large × CallTo input large l s t commands status ops
 
 -- the usage line of this place was said, where the answer is Ok, or its front, and nothing else was done
 pub record SaysUsage {T E : Type 0} (place : ℕ) (result : Result T E) (ops : List Op) : Type 0 where
@@ -97,13 +98,17 @@ IsUsageAnswer OutOfMemory = Unit {0}
 IsUsageAnswer _ = ⊥
 
 -- A call with these words, in which the host's count of faults rose or the inbox's, or not.
-pub record CalledWith (words : List (List ℕ)) (HostRose InboxRose : Type 0) (status : Status) (l : Log) (ops : List Op) : Type 0 where
-  pub usage : ((commands : List Command) → Commands words commands → ⊥) → ToldUsage words status ops
-  pub called : (commands : List Command) → Commands words commands → Called commands status l ops
+pub record CalledWith (words : List (List ℕ)) (input : Option Files) (Told : Option (List ℕ) → Type 0) (HostRose InboxRose : Type 0) (status : Status) (l : Log) (ops : List Op) : Type 0 where
+  pub usage : words_spell.commands words ≡ None → ToldUsage words status ops
+  pub called : (commands : List PlainCommand) → words_spell.commands words ≡ Some commands → Called input Told commands status l ops
   -- complete: want of memory alone is free
-  pub answers : (commands : List Command) → Commands words commands → ¬ HostRose → ¬ InboxRose → GotClaim ops → (s t : StateView) → Entry machine l s t → IsRunAnswer status
-  pub damaged : (commands : List Command) → Commands words commands → ¬ HostRose → GotClaim ops → SoundForNone (live_of l) → IsDamagedAnswer status
+  pub answers : (commands : List PlainCommand) → words_spell.commands words ≡ Some commands → ¬ HostRose → ¬ InboxRose → GotClaim ops → Apart input (live_of l) → (s t : StateView) → Entry (machine input) l s t → IsRunAnswer status
+  pub damaged : (commands : List PlainCommand) → words_spell.commands words ≡ Some commands → ¬ HostRose → GotClaim ops → SoundForNone (live_of l) → IsDamagedAnswer status
 
 -- files hold one state at most
 abbrev pub LawOfStoredStates : Type 0
-LawOfStoredStates = (files : Files) (s t : StateView) → Stored files s → Stored files t → s ≡ t
+LawOfStoredStates = (files : Files) (s t : StateView) → RootApart files → Stored files s → Stored files t → s ≡ t
+
+-- calls hand over, whatever inbox they have
+abbrev pub LawOfHandOver : Type 0
+LawOfHandOver = (input : Option Files) → HandOverLaw (machine input)

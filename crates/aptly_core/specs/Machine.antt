@@ -3,30 +3,28 @@ use Rattle.std.specs.Prelude.{◌≡◌, ◌⊎◌, ℕ, ◌≤◌, ◌||◌, Bo
 use Rattle.ap_text.specs.Paths.{is_below}
 use Rattle.ap_host.specs.declared.host.Op.{Op}
 use Rattle.ap_host.specs.declared.host.Op.TheVariants.{Create, Append, Sync, Rename, Remove, Barrier, Say, Claim}
-use Rattle.ap_host.specs.Disk.{Path, Log, live_of}
+use Rattle.ap_host.specs.Disk.{Path, Files, Log, live_of}
 use Rattle.ap_host.specs.Changes.{EachOp}
+use Rattle.command_words.specs.Plain.{PlainCommand}
 use Rattle.run_model.specs.Run.{Outcome, Machine}
 use Rattle.stage_file.specs.Stage.{is_staged}
-use Rattle.aptly_core.specs.declared.command_words.Command.{Command}
-use Rattle.aptly_core.specs.declared.machine_state.Refusal.{Refusal}
-use Rattle.aptly_core.specs.State.{Valid}
-use Rattle.aptly_core.specs.Step.{Step, Came}
+use Rattle.hash_pool.specs.Names.{is_pooled}
+use Rattle.hash_pool.specs.Growth.{targets, IsOnce}
+use Rattle.machine_state.specs.declared.refusal.Refusal.{Refusal}
+use Rattle.machine_state.specs.State.{Valid}
+use Rattle.machine_state.specs.Values.{StateView}
+use Rattle.machine_step.specs.Step.{Step, Came}
 use Rattle.aptly_core.specs.Store.{NothingPublic, Open, root}
-use Rattle.aptly_core.specs.Values.{StateView}
 
 -- what a command comes to, as an outcome of a run
 abbrev pub came : Outcome StateView Refusal → Came
 came o = record { reply = o.reply; refusal = o.refusal; state = o.state }
 
-abbrev pub Steps : Option (List ℕ) → StateView → Command → Outcome StateView Refusal → Type 0
-Steps large state command o = Step large state command (came o)
-
--- which text the call's pattern builder refused for its size: so far none is asked
-abbrev pub IsTold : Option (List ℕ) → Type 0
-IsTold large = large ≡ None
+abbrev pub Steps : Option Files → Option (List ℕ) → StateView → PlainCommand → Outcome StateView Refusal → Type 0
+Steps input large state command o = Step input large state command (came o)
 
 abbrev pub is_below_one : Path → Bool
-is_below_one path = is_below (codes "db") path || is_below (codes "pool") path || is_below (codes "public") path
+is_below_one path = is_below (codes "db") path || is_pooled path || is_below (codes "public") path
 
 -- the operation sets the root
 abbrev pub Sets : Op → Type 0
@@ -54,32 +52,17 @@ IsOpening _ = ⊥
 
 -- an operation of a refused command: it removes nothing, and sets pool files alone that weren't there
 abbrev pub IsIdle : Log → Op → Type 0
-IsIdle l (Rename a b) = IsTrue (is_below (codes "pool") b) × (live_of l b ≡ None)
+IsIdle l (Rename a b) = IsTrue (is_pooled b) × (live_of l b ≡ None)
 IsIdle l (Remove p) = ⊥
 IsIdle l _ = Unit {0}
-
--- the paths to which files are renamed, in turn
-abbrev pub targets : List Op → List Path
-targets [] = []
-targets (Rename a b ∷ ops) = b ∷ targets ops
-targets (op ∷ ops) = targets ops
-
-abbrev pub IsNot : Path → List Path → Type 0
-IsNot p [] = Unit {0}
-IsNot p (q ∷ qs) = (p ≡ q → ⊥) × IsNot p qs
-
--- no path stands there twice
-abbrev pub IsOnce : List Path → Type 0
-IsOnce [] = Unit {0}
-IsOnce (p ∷ ps) = IsNot p ps × IsOnce ps
 
 -- each is the root, or a pool file that wasn't there
 abbrev pub AreTargets : Log → List Path → Type 0
 AreTargets l [] = Unit {0}
-AreTargets l (p ∷ ps) = ((p ≡ root) ⊎ (IsTrue (is_below (codes "pool") p) × (live_of l p ≡ None))) × AreTargets l ps
+AreTargets l (p ∷ ps) = ((p ≡ root) ⊎ (IsTrue (is_pooled p) × (live_of l p ≡ None))) × AreTargets l ps
 
 -- what the operations of one command keep to, from the log at its start on
-pub record Moves (l : Log) (state : StateView) (command : Command) (outcome : Option (Outcome StateView Refusal)) (ops : List Op) : Type 0 where
+pub record Moves (l : Log) (state : StateView) (command : PlainCommand) (outcome : Option (Outcome StateView Refusal)) (ops : List Op) : Type 0 where
   pub work : EachOp IsWork ops
   pub once : IsOnce (targets ops)
   pub targets : AreTargets l (targets ops)
@@ -92,6 +75,11 @@ pub record Opening (l : Log) (state : StateView) (ops : List Op) : Type 0 where
   pub kinds : EachOp IsOpening ops
   pub once : IsOnce (targets ops)
 
--- Nothing is published so far, so what is open is settled too, and clients are served by any store with no public file.
-abbrev pub machine : Machine (Option (List ℕ)) StateView Command Refusal
-machine = record { Valid = Valid; Step = Steps; Open = Open; Settled = Open; Served = λ files s t. NothingPublic files; Sets = Sets; Moves = Moves; Opening = Opening }
+-- The machine of a call whose inbox tells these files, or none. Nothing is published so far, so what is open is settled too, and
+-- clients are served by any store with no public file.
+abbrev pub machine : Option Files → Machine (Option (List ℕ)) StateView PlainCommand Refusal
+machine input = record { Valid = Valid; Step = Steps input; Open = Open; Settled = Open; Served = λ files s t. NothingPublic files; Sets = Sets; Moves = Moves; Opening = Opening }
+
+-- What files stand for hangs on no inbox. Where nothing is read from one, this is the machine.
+abbrev pub store : Machine (Option (List ℕ)) StateView PlainCommand Refusal
+store = machine None

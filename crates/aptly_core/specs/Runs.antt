@@ -1,21 +1,24 @@
--- What one command, and a list of commands, add to the log.
+-- What one command, and a list of commands, add to the log. Told says which text the call's pattern builder may have refused for
+-- its size.
 use Rattle.std.specs.Prelude.{◌≡◌, ℕ, List, [], ◌∷◌, ◌++◌, Option, Some, None, Result, Ok, Err, IfOk}
 use Rattle.ap_host.specs.declared.host.Op.{Op}
 use Rattle.ap_host.specs.declared.host.HostErr.{HostErr}
 use Rattle.ap_host.specs.declared.host.HostErr.TheVariants as errors
-use Rattle.ap_host.specs.Disk.{Log, said}
+use Rattle.ap_host.specs.Disk.{Files, Log, extended, live_of, said}
 use Rattle.ap_host.specs.Changes.{EachOp}
+use Rattle.command_words.specs.Plain.{PlainCommand}
 use Rattle.run_model.specs.Run.{Outcome, Ran, AtRest, Runs, EndsAs}
-use Rattle.aptly_core.specs.declared.command_words.Command.{Command}
-use Rattle.aptly_core.specs.declared.machine_state.Refusal.{Refusal}
-use Rattle.aptly_core.specs.declared.run.RunFault.{RunFault}
-use Rattle.aptly_core.specs.declared.run.RunFault.TheVariants.{HostFault, InboxFault, OutOfMemory}
+use Rattle.stage_file.specs.Stage.{StageState, IsInStep}
+use Rattle.machine_state.specs.declared.refusal.Refusal.{Refusal}
+use Rattle.machine_state.specs.State.{Valid}
+use Rattle.machine_state.specs.Values.{StateView}
+use Rattle.reply_text.specs.Refusals.{refusal_line}
+use Rattle.aptly_core.specs.declared.fault.RunFault.{RunFault}
+use Rattle.aptly_core.specs.declared.fault.RunFault.TheVariants.{HostFault, InboxFault, OutOfMemory}
 use Rattle.aptly_core.specs.declared.status.Status.{Status}
 use Rattle.aptly_core.specs.declared.status.Status.TheVariants as statuses
 use Rattle.aptly_core.specs.Machine.{machine, Steps, IsWork}
-use Rattle.aptly_core.specs.Replies.{refusal_line}
-use Rattle.aptly_core.specs.State.{Valid}
-use Rattle.aptly_core.specs.Values.{StateView}
+use Rattle.aptly_core.specs.Store.{BodiesApart}
 
 -- the fault of a run whose host gave this error
 abbrev pub of_host : HostErr → RunFault
@@ -23,32 +26,43 @@ of_host errors.Failed = HostFault
 of_host errors.OutOfMemory = OutOfMemory
 
 -- the command comes to this state and this refusal
-abbrev pub ComesTo : StateView → Command → StateView × Option Refusal → Type 0
-ComesTo state command done = Valid done.0 × (reply : List ℕ) × Steps None state command (record { reply = reply; refusal = done.1; state = done.0 })
+abbrev pub ComesTo : Option Files → (Option (List ℕ) → Type 0) → StateView → PlainCommand → StateView × Option Refusal → Type 0
+ComesTo input Told state command done = Valid done.0 × (reply : List ℕ) × (large : Option (List ℕ)) × Told large × Steps input large state command (record { reply = reply; refusal = done.1; state = done.0 })
 
 -- the command that ended, or broke off
-abbrev pub RanOne : Log → StateView → Command → Result (StateView × Option Refusal) RunFault → List Op → Type 0
-RanOne l state command (Ok done) ops = Ran machine None l state (command ∷ []) (Some done) ops
-RanOne l state command (Err fault) ops = Ran machine None l state (command ∷ []) None ops
+abbrev pub RanOne : Option Files → (Option (List ℕ) → Type 0) → Log → StateView → PlainCommand → Result (StateView × Option Refusal) RunFault → List Op → Type 0
+RanOne input Told l state command (Ok done) ops = (large : Option (List ℕ)) × Told large × Ran (machine input) large l state (command ∷ []) (Some done) ops
+RanOne input Told l state command (Err fault) ops = (large : Option (List ℕ)) × Told large × Ran (machine input) large l state (command ∷ []) None ops
 
--- One command: on any log its kinds of operations; from a valid state, at Ok, that its reply was said; and where each image of
--- the log is settled for the state, that it ran.
-pub record RunsOne (state : StateView) (command : Command) (result : Result (StateView × Option Refusal) RunFault) (l : Log) (ops : List Op) : Type 0 where
+-- Where a command may begin: each image is settled for the state, what the stage hasn't touched is durable, the inbox tells its
+-- files, and SHA-256 tells these and the pool's files apart.
+pub record MayRun (input : Option Files) (state : StateView) (stage : StageState) (l : Log) : Type 0 where
+  pub rest : AtRest (machine input) state l
+  pub step : IsInStep stage l
+  pub apart : BodiesApart input (live_of l)
+
+-- One command: on any log its kinds of operations; from a valid state, at Ok, that its reply was said; and where it may begin, that
+-- it ran, and that a next one may begin.
+pub record RunsOne (input : Option Files) (Told : Option (List ℕ) → Type 0) (state : StateView) (command : PlainCommand) (before now : StageState) (result : Result (StateView × Option Refusal) RunFault) (l : Log) (ops : List Op) : Type 0 where
   pub work : EachOp IsWork ops
-  pub says : Valid state → IfOk result (λ done. Steps None state command (record { reply = said ops; refusal = done.1; state = done.0 }))
-  pub ran : AtRest machine state l → RanOne l state command result ops
+  pub says : Valid state → IfOk result (λ done. (large : Option (List ℕ)) × Told large × Steps input large state command (record { reply = said ops; refusal = done.1; state = done.0 }))
+  pub ran : MayRun input state before l → RanOne input Told l state command result ops
+  pub on : MayRun input state before l → IfOk result (λ done. MayRun input done.0 now (extended ops l))
 
 -- the commands, from this state, come to the end that the status tells
-abbrev pub EndsWith : StateView → List Command → Status → Type 0
-EndsWith state commands statuses.Done = (outcomes : List (Outcome StateView Refusal)) × Runs machine None state commands outcomes × EndsAs commands outcomes None
-EndsWith state commands (statuses.Refused refusal) = (outcomes : List (Outcome StateView Refusal)) × Runs machine None state commands outcomes × EndsAs commands outcomes (Some refusal)
-EndsWith state commands _ = Unit {0}
+abbrev pub EndsWith : Option Files → (Option (List ℕ) → Type 0) → StateView → List PlainCommand → Status → Type 0
+EndsWith input Told state commands statuses.Done = (large : Option (List ℕ)) × Told large × (outcomes : List (Outcome StateView Refusal)) × Runs (machine input) large state commands outcomes × EndsAs commands outcomes None
+EndsWith input Told state commands (statuses.Refused refusal) = (large : Option (List ℕ)) × Told large × (outcomes : List (Outcome StateView Refusal)) × Runs (machine input) large state commands outcomes × EndsAs commands outcomes (Some refusal)
+EndsWith input Told state commands _ = Unit {0}
 
 -- what a list of commands that ends with this status did
-abbrev pub RanTo : Log → StateView → List Command → Status → List Op → Type 0
-RanTo l state commands statuses.Done ops = (end : StateView) × Ran machine None l state commands (Some (end, None)) ops
-RanTo l state commands (statuses.Refused refusal) ops = (end : StateView) × Ran machine None l state commands (Some (end, Some refusal)) ops
-RanTo l state commands _ ops = Ran machine None l state commands None ops
+abbrev pub RanAs : Option Files → Option (List ℕ) → Log → StateView → List PlainCommand → Status → List Op → Type 0
+RanAs input large l state commands statuses.Done ops = (end : StateView) × Ran (machine input) large l state commands (Some (end, None)) ops
+RanAs input large l state commands (statuses.Refused refusal) ops = (end : StateView) × Ran (machine input) large l state commands (Some (end, Some refusal)) ops
+RanAs input large l state commands _ ops = Ran (machine input) large l state commands None ops
+
+abbrev pub RanTo : Option Files → (Option (List ℕ) → Type 0) → Log → StateView → List PlainCommand → Status → List Op → Type 0
+RanTo input Told l state commands status ops = (large : Option (List ℕ)) × Told large × RanAs input large l state commands status ops
 
 -- a status that a list of commands may end with
 abbrev pub IsRunStatus : Status → Type 0
@@ -64,10 +78,10 @@ abbrev pub SaysRefusal : Refusal → List Op → Type 0
 SaysRefusal refusal ops = (front : List ℕ) × (said ops ≡ front ++ refusal_line refusal)
 
 -- A list of commands, up to the first refused one.
-pub record RunsList (state : StateView) (commands : List Command) (status : Status) (l : Log) (ops : List Op) : Type 0 where
+pub record RunsList (input : Option Files) (Told : Option (List ℕ) → Type 0) (state : StateView) (commands : List PlainCommand) (before : StageState) (status : Status) (l : Log) (ops : List Op) : Type 0 where
   pub work : EachOp IsWork ops
   pub refused : Valid state → (refusal : Refusal) → status ≡ statuses.Refused refusal → SaysRefusal refusal ops
-  pub ran : AtRest machine state l → RanTo l state commands status ops
+  pub ran : MayRun input state before l → RanTo input Told l state commands status ops
 
 abbrev pub status_of_fault : RunFault → Status
 status_of_fault HostFault = statuses.HostFault
@@ -87,18 +101,20 @@ IsTurnEnd statuses.InboxFault = Unit {0}
 IsTurnEnd statuses.OutOfMemory = Unit {0}
 IsTurnEnd _ = ⊥
 
-abbrev pub TurnComes : StateView → Command → Result StateView Status → Type 0
-TurnComes state command (Ok next) = ComesTo state command (next, None)
-TurnComes state command (Err (statuses.Refused refusal)) = (next : StateView) × ComesTo state command (next, Some refusal)
-TurnComes state command (Err _) = Unit {0}
+-- what a command that isn't refused comes to hangs on no text that was too large
+abbrev pub TurnComes : Option Files → (Option (List ℕ) → Type 0) → StateView → PlainCommand → Result StateView Status → Type 0
+TurnComes input Told state command (Ok next) = Valid next × (reply : List ℕ) × ((large : Option (List ℕ)) → Steps input large state command (record { reply = reply; refusal = None; state = next }))
+TurnComes input Told state command (Err (statuses.Refused refusal)) = (next : StateView) × ComesTo input Told state command (next, Some refusal)
+TurnComes input Told state command (Err _) = Unit {0}
 
-abbrev pub TurnRan : Log → StateView → Command → Result StateView Status → List Op → Type 0
-TurnRan l state command (Ok next) ops = Ran machine None l state (command ∷ []) (Some (next, None)) ops
-TurnRan l state command (Err (statuses.Refused refusal)) ops = (next : StateView) × Ran machine None l state (command ∷ []) (Some (next, Some refusal)) ops
-TurnRan l state command (Err _) ops = Ran machine None l state (command ∷ []) None ops
+abbrev pub TurnRan : Option Files → (Option (List ℕ) → Type 0) → Log → StateView → PlainCommand → Result StateView Status → List Op → Type 0
+TurnRan input Told l state command (Ok next) ops = (large : Option (List ℕ)) → Ran (machine input) large l state (command ∷ []) (Some (next, None)) ops
+TurnRan input Told l state command (Err (statuses.Refused refusal)) ops = (large : Option (List ℕ)) × Told large × (next : StateView) × Ran (machine input) large l state (command ∷ []) (Some (next, Some refusal)) ops
+TurnRan input Told l state command (Err _) ops = (large : Option (List ℕ)) × Told large × Ran (machine input) large l state (command ∷ []) None ops
 
 -- one command of a list
-pub record Turns (state : StateView) (command : Command) (result : Result StateView Status) (l : Log) (ops : List Op) : Type 0 where
+pub record Turns (input : Option Files) (Told : Option (List ℕ) → Type 0) (state : StateView) (command : PlainCommand) (before now : StageState) (result : Result StateView Status) (l : Log) (ops : List Op) : Type 0 where
   pub work : EachOp IsWork ops
   pub refused : Valid state → (refusal : Refusal) → result ≡ Err (statuses.Refused refusal) → said ops ≡ refusal_line refusal
-  pub ran : AtRest machine state l → TurnRan l state command result ops
+  pub ran : MayRun input state before l → TurnRan input Told l state command result ops
+  pub on : MayRun input state before l → IfOk result (λ next. MayRun input next now (extended ops l))

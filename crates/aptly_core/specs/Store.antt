@@ -1,16 +1,20 @@
 -- Which files of a store stand for which state.
-use Rattle.std.specs.Prelude.{◌≡◌, ◌⊎◌, ℕ, List, [], Some, None, Result, Ok, Err, IsTrue, codes}
+use Rattle.std.specs.Prelude.{◌≡◌, ◌≢◌, ◌⊎◌, ℕ, List, All, Contains, Option, Some, None, Result, Ok, Err, IsTrue, length, codes}
 use Rattle.ap_text.specs.Paths.{is_below}
 use Rattle.ap_host.specs.declared.host.HostErr.{HostErr}
 use Rattle.ap_host.specs.declared.host.HostErr.TheVariants.{Failed, OutOfMemory as NoMemory}
 use Rattle.ap_host.specs.Disk.{Path, Content, Files}
+use Rattle.package_core.specs.Card.{Card}
+use Rattle.hash_pool.specs.Names.{pool_name, IsNamed}
+use Rattle.machine_state.specs.State.{Valid, empty}
+use Rattle.machine_state.specs.Values.{StateView}
+use Rattle.catalogue_text.specs.Root.{root_text}
+use Rattle.catalogue_text.specs.Faults.{TextsApart, IsFirstBadLine}
+use Rattle.local_repo.specs.Bodies.{HasBody, DigestsApart}
 use Rattle.aptly_core.specs.declared.status.Damage.{Damage}
 use Rattle.aptly_core.specs.declared.status.Damage.TheVariants.{Missing, Size, Digest, Unreadable}
 use Rattle.aptly_core.specs.declared.catalogue_root.LoadFault.{LoadFault}
 use Rattle.aptly_core.specs.declared.catalogue_root.LoadFault.TheVariants.{Damaged, HostFault, OutOfMemory}
-use Rattle.aptly_core.specs.Root.{root_text, IsFirstBadLine}
-use Rattle.aptly_core.specs.State.{Valid}
-use Rattle.aptly_core.specs.Values.{StateView}
 
 -- the path of the root
 abbrev pub root : Path
@@ -18,16 +22,27 @@ root = codes "db/root"
 
 -- the root holds the state's text. A store without a root is empty
 abbrev pub IsRootOf : Content → StateView → Type 0
-IsRootOf content state = (content ≡ Some (root_text state)) ⊎ ((content ≡ None) × (state ≡ record { repos = [] }))
+IsRootOf content state = (content ≡ Some (root_text state)) ⊎ ((content ≡ None) × (state ≡ empty))
 
--- the files hold the state, whole
+-- The files hold the state, whole: the pool has the file of each known package, with its size and digests, and each file of the
+-- pool has the name of its SHA-256.
 pub record Stored (files : Files) (state : StateView) : Type 0 where
   pub valid : Valid state
   pub root : IsRootOf (files root) state
+  pub bodies : All (HasBody files) state.known
+  pub named : IsNamed files
 
--- what a load can see of it: so far, all
-abbrev pub Sound : Files → StateView → Type 0
-Sound files state = Stored files state
+-- the pool has a file of the package's name and size
+pub record HasFile (files : Files) (p : Card) : Type 0 where
+  pub bytes : List ℕ
+  pub file : files (pool_name p.said.sha256) ≡ Some bytes
+  pub size : length bytes ≡ p.said.size
+
+-- what a load can see of it: it reads no file of the pool
+pub record Sound (files : Files) (state : StateView) : Type 0 where
+  pub valid : Valid state
+  pub root : IsRootOf (files root) state
+  pub there : All (HasFile files) state.known
 
 abbrev pub SoundForNone : Files → Type 0
 SoundForNone files = (state : StateView) → Sound files state → ⊥
@@ -41,29 +56,81 @@ pub record Open (files : Files) (state : StateView) : Type 0 where
   pub stored : Stored files state
   pub public : NothingPublic files
 
--- what is wrong in the files
+-- no two package texts in the root share a SHA-256, so that it tells which packages the repositories list
+abbrev pub RootApart : Files → Type 0
+RootApart files = (text : List ℕ) → files root ≡ Some text → TextsApart text
+
+-- The inbox tells its files, and no two of them and of the pool's files share a SHA-256.
+pub record BodiesApart (input : Option Files) (files : Files) : Type 0 where
+  pub inbox : Files
+  pub told : input ≡ Some inbox
+  pub apart : DigestsApart files inbox
+
+-- both
+pub record Apart (input : Option Files) (files : Files) : Type 0 where
+  pub texts : RootApart files
+  pub bodies : BodiesApart input files
+
+-- a package of the state whose text the root is
+pub record IsListed (files : Files) (p : Card) : Type 0 where
+  pub state : StateView
+  pub valid : Valid state
+  pub root : IsRootOf (files root) state
+  pub known : Contains state.known p
+
+-- what is wrong with the file of a package: it isn't there, or has another length
+abbrev pub IsWrong : Files → Card → Damage → Type 0
+IsWrong files p (Missing path) = (path ≡ pool_name p.said.sha256) × (files path ≡ None)
+IsWrong files p (Size path said found) = (path ≡ pool_name p.said.sha256) × (said ≡ p.said.size) × (said ≢ found) × (bytes : List ℕ) × (files path ≡ Some bytes) × (found ≡ length bytes)
+IsWrong files p (Digest path said found) = ⊥
+IsWrong files p (Unreadable path line) = ⊥
+
+-- what is wrong in the files: a line of the root, or the file of a package that it tells
 abbrev pub IsDamage : Files → Damage → Type 0
 IsDamage files (Unreadable path line) = (path ≡ root) × (text : List ℕ) × (files root ≡ Some text) × IsFirstBadLine text line
-IsDamage files (Missing path) = ⊥
-IsDamage files (Size path said found) = ⊥
-IsDamage files (Digest path said found) = ⊥
+IsDamage files damage = (p : Card) × IsListed files p × IsWrong files p damage
+
+-- whatever the host: what was found differs from what is said
+abbrev pub IsDifference : Damage → Type 0
+IsDifference (Size path said found) = said ≢ found
+IsDifference (Digest path said found) = said ≢ found
+IsDifference (Missing path) = Unit {0}
+IsDifference (Unreadable path line) = Unit {0}
+
+abbrev pub DiffersIn : {T : Type 0} → Result T LoadFault → Type 0
+DiffersIn (Err (Damaged damage)) = IsDifference damage
+DiffersIn _ = Unit {0}
 
 -- a load of these files may give this
 abbrev pub MayLoad : Files → Result StateView LoadFault → Type 0
 MayLoad files (Ok state) = Sound files state
-MayLoad files (Err (Damaged damage)) = SoundForNone files × IsDamage files damage
+MayLoad files (Err (Damaged damage)) = RootApart files → SoundForNone files × IsDamage files damage
 MayLoad files (Err HostFault) = Unit {0}
 MayLoad files (Err OutOfMemory) = Unit {0}
 
 -- a load of a root with these bytes
 abbrev pub IsLoadOf : List ℕ → Result StateView LoadFault → Type 0
 IsLoadOf text (Ok state) = Valid state × (text ≡ root_text state)
-IsLoadOf text (Err (Damaged (Unreadable path line))) = (path ≡ root) × IsFirstBadLine text line
+IsLoadOf text (Err (Damaged (Unreadable path line))) = (path ≡ root) × (TextsApart text → IsFirstBadLine text line)
 IsLoadOf text (Err (Damaged (Missing path))) = ⊥
 IsLoadOf text (Err (Damaged (Size path said found))) = ⊥
 IsLoadOf text (Err (Damaged (Digest path said found))) = ⊥
 IsLoadOf text (Err HostFault) = ⊥
 IsLoadOf text (Err OutOfMemory) = Unit {0}
+
+-- a look for the file of a package may answer this
+abbrev pub IsLookedFor : {T : Type 0} → Files → Card → Result T LoadFault → Type 0
+IsLookedFor files p (Ok x) = HasFile files p
+IsLookedFor files p (Err (Damaged damage)) = IsWrong files p damage
+IsLookedFor files p (Err HostFault) = Unit {0}
+IsLookedFor files p (Err OutOfMemory) = Unit {0}
+
+-- and one for the files of these packages
+abbrev pub AreLookedFor : {T : Type 0} → Files → List Card → Result T LoadFault → Type 0
+AreLookedFor files list (Ok x) = All (HasFile files) list
+AreLookedFor files list (Err (Damaged damage)) = (p : Card) × Contains list p × IsWrong files p damage
+AreLookedFor files list (Err HostFault) = Unit {0}
+AreLookedFor files list (Err OutOfMemory) = Unit {0}
 
 -- the fault of a load whose host gave this error
 abbrev pub of_host : HostErr → LoadFault

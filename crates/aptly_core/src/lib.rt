@@ -1,24 +1,15 @@
-//! The machine: what words spell, what a state is, what each command comes to in it, and the text that stands for a state;
-//! and its runs over a store, each command committed before its reply is said.
+//! The machine over a store: the state is loaded from it, each command is decided and committed before its reply is said, and
+//! whatever moment a call is stopped at, the store stands for the state after some first commands.
 #![tactic(auto)]
 
 pub mod catalogue_root;
-pub mod catalogue_text;
-pub mod command_words;
-pub mod machine_state;
-pub mod machine_step;
-mod naming;
-mod reading;
-pub mod reply_text;
-mod root_reader;
-mod root_values;
+mod decide;
+mod fault;
+mod laws;
 mod run;
-#[cfg(test)]
-mod run_tests;
 mod status;
-#[cfg(test)]
-mod tests;
-mod text_lines;
 
-pub use run::{RunFault, aptly, calls_hand_over, run_one, stored_states_are_equal};
+pub use fault::RunFault;
+pub use laws::{calls_hand_over, stored_states_are_equal};
+pub use run::{aptly, run_one};
 pub use status::{Damage, Status};

@@ -1,60 +1,33 @@
 //! Runs of commands over a store.
-ghost use Rattle.std.specs.Prelude.{◌≡◌, ◌≤◌, ℕ, List, IfOk, IfErr, Err};
+ghost use Rattle.std.specs.Prelude.{◌≡◌, ◌≤◌, ℕ, List, Option, IfOk, IfErr, Err, map};
 ghost use Rattle.ap_host.specs.Calls.{CauseOf, HasCause, Rose};
 ghost use Rattle.ap_host.specs.Changes.{GoesOn};
-ghost use Rattle.aptly_core.specs.declared.run.RunFault.TheVariants.{HostFault, InboxFault, OutOfMemory};
+ghost use Rattle.command_words.specs.Commands as spelled;
+ghost use Rattle.command_words.specs.Commands.{IsUsagePlace};
+ghost use Rattle.command_words.specs.Plain.{plain};
+ghost use Rattle.machine_state.specs.State.{Valid};
+ghost use Rattle.machine_step.specs.Answers.{IsTold};
+ghost use Rattle.aptly_core.specs.declared.fault.RunFault.TheVariants.{HostFault, InboxFault};
 ghost use Rattle.aptly_core.specs.declared.status.Status.TheVariants as Status;
 ghost use Rattle.aptly_core.specs.declared.catalogue_root.LoadFault.TheVariants as LoadFault;
 ghost use Rattle.aptly_core.specs.declared.status.Damage.{Damage};
 ghost use Rattle.aptly_core.specs.Commits.{Saves};
-ghost use Rattle.aptly_core.specs.Calls.{Called, CalledWith, IsUsageAnswer, LawOfStoredStates, SaysUsage, TellsUsage};
-ghost use Rattle.aptly_core.specs.Machine.{machine};
-ghost use Rattle.aptly_core.specs.Words.{Commands, IsUsagePlace};
-ghost use Rattle.run_model.specs.Call.{HandOverLaw};
-ghost use Rattle.aptly_core.specs.declared.command_words.Command.{Command as CommandOf};
-ghost use Rattle.aptly_core.specs.Opens.{Enters, SettlesTo, OpensTo, RunsClaimed, IsClaimedStatus};
-ghost use Rattle.aptly_core.specs.Runs.{RunsOne, RunsList, ComesTo, EndsWith, IsRunStatus, Turns, TurnComes, IsTurnEnd, of_host, status_of_fault, next_of_done};
-ghost use Rattle.aptly_core.specs.State.{Valid};
+ghost use Rattle.aptly_core.specs.Calls.{Called, CalledWith, IsUsageAnswer, SaysUsage, TellsUsage};
+ghost use Rattle.aptly_core.specs.Opens.{Enters, SettlesTo, OpensTo, RunsClaimed, IsClaimedStatus, status_of_load};
+ghost use Rattle.aptly_core.specs.Runs.{RunsOne, RunsList, ComesTo, EndsWith, IsRunStatus, Turns, TurnComes, IsTurnEnd, status_of_fault, next_of_done};
+ghost use Rattle.aptly_core.specs.Store.{DiffersIn, IsDifference};
 
 use crate::catalogue_root::{LoadFault, commit, load};
-use crate::command_words::{Command, WordFault, Words, read_words};
-use crate::machine_state::{Refusal, State};
-use crate::machine_step::step;
-use crate::reply_text::usage_line;
+use crate::decide::decide;
+use crate::fault::RunFault;
 use crate::status::Status;
 use ap_host::{Host, HostErr, Inbox};
+use command_words::{Command, WordFault, Words, read_words};
+use machine_state::{Refusal, State};
+use query_eval::Patterns;
+use reply_text::usage_line;
 use stage_file::Stage;
-use std::alloc::{AllocError, Global};
-
-/// Why a command broke off.
-#[derive(Clone, Copy, Debug, PartialEq, Eq)]
-pub enum RunFault {
-    /// A call of the host failed.
-    HostFault,
-    /// A call of the inbox failed.
-    InboxFault,
-    /// Memory was wanting.
-    OutOfMemory,
-}
-
-impl From<AllocError> for RunFault {
-    ghost from_gives = { λ _ fault. fault ≡ OutOfMemory };
-
-    fn from(_error: AllocError) -> RunFault {
-        RunFault::OutOfMemory
-    }
-}
-
-impl From<HostErr> for RunFault {
-    ghost from_gives = { λ error fault. fault ≡ of_host error };
-
-    fn from(error: HostErr) -> RunFault {
-        match error {
-            HostErr::Failed => RunFault::HostFault,
-            HostErr::OutOfMemory => RunFault::OutOfMemory,
-        }
-    }
-}
+use std::alloc::Global;
 
 /// Commits the new state, where there is one.
 fn save<H: Host>(
@@ -64,7 +37,7 @@ fn save<H: Host>(
     old: &State,
     new: &Option<State>,
 ) -> Result<(), HostErr>
-    ensures log { GoesOn (H.log host.old) (H.log host.new) (Saves old.now new.now result) }
+    ensures log { GoesOn (H.log host.old) (H.log host.new) (Saves old.now new.now stage.old stage.new result) }
     ensures cause { HasCause (H.faults host.old) (H.faults host.new) result }
 {
     match new {
@@ -76,21 +49,24 @@ fn save<H: Host>(
 /// Runs one command in a valid state: its step, its commit where the state changes, and its reply. `now` is in seconds since
 /// 1970. A refusal is a reply too. `HostFault` comes only where a call of the host failed, and `InboxFault` only where one of
 /// the inbox did.
-pub fn run_one<H: Host, I: Inbox>(
+pub fn run_one<H: Host, I: Inbox, M: Patterns>(
     alloc: Global,
     host: &mut H,
-    _inbox: &mut I,
+    inbox: &mut I,
     stage: &mut Stage,
     state: State,
     command: &Command,
-    _now: i64,
+    now: i64,
+    patterns: &mut M,
 ) -> Result<(State, Option<Refusal>), RunFault>
-    ensures comes { Valid state → IfOk result (ComesTo state command.now) }
-    ensures log { GoesOn (H.log host.old) (H.log host.new) (RunsOne state command.now result) }
+    ensures comes { Valid state → IfOk result (ComesTo (I.map inbox.old) (IsTold (M.refusals patterns.old) (M.refusals patterns.new) (M.refused patterns.new)) state (plain command.now)) }
+    ensures log { GoesOn (H.log host.old) (H.log host.new) (RunsOne (I.map inbox.old) (IsTold (M.refusals patterns.old) (M.refusals patterns.new) (M.refused patterns.new)) state (plain command.now) stage.old stage.new result) }
     ensures host_cause { CauseOf HostFault (H.faults host.old) (H.faults host.new) result }
-    ensures inbox_cause { CauseOf InboxFault (I.faults _inbox.old) (I.faults _inbox.new) result }
+    ensures inbox_cause { CauseOf InboxFault (I.faults inbox.old) (I.faults inbox.new) result }
+    ensures map { I.map inbox.new ≡ I.map inbox.old }
+    ensures later { M.refusals patterns.old ≤ M.refusals patterns.new }
 {
-    let outcome = step(alloc, &state, command)?;
+    let outcome = decide(alloc, host, inbox, stage, &state, command, now, patterns)?;
     save(alloc, host, stage, &state, &outcome.state)?;
     host.say(outcome.reply.as_str().as_bytes())?;
     Ok((outcome.state.unwrap_or(state), outcome.refusal))
@@ -118,7 +94,7 @@ fn next_of(done: (State, Option<Refusal>)) -> Result<State, Status>
 }
 
 /// Runs one command of a list: gives the next state, or the status that ends the list.
-fn turn<H: Host, I: Inbox>(
+fn turn<H: Host, I: Inbox, M: Patterns>(
     alloc: Global,
     host: &mut H,
     inbox: &mut I,
@@ -126,23 +102,26 @@ fn turn<H: Host, I: Inbox>(
     state: State,
     command: &Command,
     now: i64,
+    patterns: &mut M,
 ) -> Result<State, Status>
-    ensures comes { Valid state → TurnComes state command.now result }
-    ensures log { GoesOn (H.log host.old) (H.log host.new) (Turns state command.now result) }
+    ensures comes { Valid state → TurnComes (I.map inbox.old) (IsTold (M.refusals patterns.old) (M.refusals patterns.new) (M.refused patterns.new)) state (plain command.now) result }
+    ensures log { GoesOn (H.log host.old) (H.log host.new) (Turns (I.map inbox.old) (IsTold (M.refusals patterns.old) (M.refusals patterns.new) (M.refused patterns.new)) state (plain command.now) stage.old stage.new result) }
     ensures host_later { H.faults host.old ≤ H.faults host.new }
     ensures host_fault { result ≡ Err Status.HostFault → Rose (H.faults host.old) (H.faults host.new) }
     ensures inbox_later { I.faults inbox.old ≤ I.faults inbox.new }
     ensures inbox_fault { result ≡ Err Status.InboxFault → Rose (I.faults inbox.old) (I.faults inbox.new) }
+    ensures map { I.map inbox.new ≡ I.map inbox.old }
+    ensures later { M.refusals patterns.old ≤ M.refusals patterns.new }
     ensures only { IfErr result IsTurnEnd }
 {
-    match run_one(alloc, host, inbox, stage, state, command, now) {
+    match run_one(alloc, host, inbox, stage, state, command, now, patterns) {
         Ok(done) => next_of(done),
         Err(fault) => Err(status_of(fault)),
     }
 }
 
 /// Runs commands in turn, up to the first refused one.
-fn run_list<H: Host, I: Inbox>(
+fn run_list<H: Host, I: Inbox, M: Patterns>(
     alloc: Global,
     host: &mut H,
     inbox: &mut I,
@@ -150,9 +129,10 @@ fn run_list<H: Host, I: Inbox>(
     state: State,
     commands: &[Command],
     now: i64,
+    patterns: &mut M,
 ) -> Status
-    ensures comes { Valid state → EndsWith state commands.now result }
-    ensures log { GoesOn (H.log host.old) (H.log host.new) (RunsList state commands.now result) }
+    ensures comes { Valid state → EndsWith (I.map inbox.old) (IsTold (M.refusals patterns.old) (M.refusals patterns.new) (M.refused patterns.new)) state (map plain commands.now) result }
+    ensures log { GoesOn (H.log host.old) (H.log host.new) (RunsList (I.map inbox.old) (IsTold (M.refusals patterns.old) (M.refusals patterns.new) (M.refused patterns.new)) state (map plain commands.now) stage.old result) }
     ensures host_later { H.faults host.old ≤ H.faults host.new }
     ensures host_fault { result ≡ Status.HostFault → Rose (H.faults host.old) (H.faults host.new) }
     ensures inbox_later { I.faults inbox.old ≤ I.faults inbox.new }
@@ -161,7 +141,7 @@ fn run_list<H: Host, I: Inbox>(
 {
     let mut state = state;
     for command in commands {
-        match turn(alloc, host, inbox, stage, state, command, now) {
+        match turn(alloc, host, inbox, stage, state, command, now, patterns) {
             Ok(next) => state = next,
             Err(end) => return end,
         }
@@ -204,6 +184,7 @@ fn settled<H: Host>(host: &mut H, stage: &mut Stage, state: State) -> Result<Sta
 /// Loads the store, and settles it.
 fn open_claimed<H: Host>(alloc: Global, host: &mut H, stage: &mut Stage) -> Result<State, LoadFault>
     ensures valid { IfOk result Valid }
+    ensures differs { DiffersIn result }
     ensures log { GoesOn (H.log host.old) (H.log host.new) (OpensTo result) }
     ensures cause { CauseOf LoadFault.HostFault (H.faults host.old) (H.faults host.new) result }
 {
@@ -213,47 +194,66 @@ fn open_claimed<H: Host>(alloc: Global, host: &mut H, stage: &mut Stage) -> Resu
     }
 }
 
+/// How a call ends whose store gave no state.
+fn status_of_load(fault: LoadFault) -> Status
+    ensures value { result ≡ status_of_load fault }
+    ensures damaged { (damage : Damage) → result ≡ Status.Damaged damage → fault ≡ LoadFault.Damaged damage }
+    ensures host { result ≡ Status.HostFault → fault ≡ LoadFault.HostFault }
+    ensures inbox { result ≡ Status.InboxFault → ⊥ }
+    ensures only { IsClaimedStatus result }
+{
+    match fault {
+        LoadFault::Damaged(damage) => Status::Damaged(damage),
+        LoadFault::HostFault => Status::HostFault,
+        LoadFault::OutOfMemory => Status::OutOfMemory,
+    }
+}
+
 /// Opens a store that was claimed, and runs the commands.
-fn run_claimed<H: Host, I: Inbox>(
+fn run_claimed<H: Host, I: Inbox, M: Patterns>(
     alloc: Global,
     host: &mut H,
     inbox: &mut I,
     commands: &[Command],
     now: i64,
+    patterns: &mut M,
 ) -> Status
-    ensures log { GoesOn (H.log host.old) (H.log host.new) (RunsClaimed commands.now result) }
+    ensures log { GoesOn (H.log host.old) (H.log host.new) (RunsClaimed (I.map inbox.old) (IsTold (M.refusals patterns.old) (M.refusals patterns.new) (M.refused patterns.new)) (map plain commands.now) result) }
     ensures host_later { H.faults host.old ≤ H.faults host.new }
     ensures host_fault { result ≡ Status.HostFault → Rose (H.faults host.old) (H.faults host.new) }
     ensures inbox_later { I.faults inbox.old ≤ I.faults inbox.new }
     ensures inbox_fault { result ≡ Status.InboxFault → Rose (I.faults inbox.old) (I.faults inbox.new) }
+    ensures differs { (damage : Damage) → result ≡ Status.Damaged damage → IsDifference damage }
     ensures only { IsClaimedStatus result }
 {
     let mut stage = Stage::new(alloc);
     match open_claimed(alloc, host, &mut stage) {
-        Ok(state) => run_list(alloc, host, inbox, &mut stage, state, commands, now),
-        Err(LoadFault::Damaged(damage)) => Status::Damaged(damage),
-        Err(LoadFault::HostFault) => Status::HostFault,
-        Err(LoadFault::OutOfMemory) => Status::OutOfMemory,
+        Ok(state) => run_list(
+            alloc, host, inbox, &mut stage, state, commands, now, patterns,
+        ),
+        Err(fault) => status_of_load(fault),
     }
 }
 
 /// The call of commands.
-fn run_commands<H: Host, I: Inbox>(
+fn run_commands<H: Host, I: Inbox, M: Patterns>(
     alloc: Global,
     host: &mut H,
     inbox: &mut I,
     commands: &[Command],
     now: i64,
+    patterns: &mut M,
 ) -> Status
-    ensures log { GoesOn (H.log host.old) (H.log host.new) (Called commands.now result) }
+    ensures log { GoesOn (H.log host.old) (H.log host.new) (Called (I.map inbox.old) (IsTold (M.refusals patterns.old) (M.refusals patterns.new) (M.refused patterns.new)) (map plain commands.now) result) }
     ensures host_later { H.faults host.old ≤ H.faults host.new }
     ensures host_fault { result ≡ Status.HostFault → Rose (H.faults host.old) (H.faults host.new) }
     ensures inbox_later { I.faults inbox.old ≤ I.faults inbox.new }
     ensures inbox_fault { result ≡ Status.InboxFault → Rose (I.faults inbox.old) (I.faults inbox.new) }
+    ensures differs { (damage : Damage) → result ≡ Status.Damaged damage → IsDifference damage }
     ensures only { (place : ℕ) → result ≡ Status.Usage place → ⊥ }
 {
     match enter(host) {
-        Ok(true) => run_claimed(alloc, host, inbox, commands, now),
+        Ok(true) => run_claimed(alloc, host, inbox, commands, now, patterns),
         Ok(false) => Status::Busy,
         Err(HostErr::Failed) => Status::HostFault,
         Err(HostErr::OutOfMemory) => Status::OutOfMemory,
@@ -290,19 +290,22 @@ fn tell_usage<H: Host>(alloc: Global, host: &mut H, place: u64) -> Status
 ///
 /// Whatever moment the call is stopped at, the store then stands for the state after some first commands, each that was
 /// answered among them, and the next call goes on from there.
-pub fn aptly<H: Host, I: Inbox>(
+pub fn aptly<H: Host, I: Inbox, M: Patterns>(
     alloc: Global,
     words: &Words,
     now: i64,
     host: &mut H,
     inbox: &mut I,
+    patterns: &mut M,
 ) -> Status
     // What the call did, on a host that tells its log.
-    ensures log { GoesOn (H.log host.old) (H.log host.new) (CalledWith words.now (Rose (H.faults host.old) (H.faults host.new)) (Rose (I.faults inbox.old) (I.faults inbox.new)) result) }
+    ensures log { GoesOn (H.log host.old) (H.log host.new) (CalledWith words.now (I.map inbox.old) (IsTold (M.refusals patterns.old) (M.refusals patterns.new) (M.refused patterns.new)) (Rose (H.faults host.old) (H.faults host.new)) (Rose (I.faults inbox.old) (I.faults inbox.new)) result) }
     // On every host: the usage place is the words'.
     ensures usage_place { (place : ℕ) → result ≡ Status.Usage place → IsUsagePlace words.now place }
     // And words that spell no commands are answered so, but for a fault of the host or want of memory.
-    ensures usage_complete { ((commands : List CommandOf) → Commands words.now commands → ⊥) → IsUsageAnswer result }
+    ensures usage_complete { spelled.commands words.now ≡ Option.None → IsUsageAnswer result }
+    // On every host: what a damage tells to be found is another value than is said.
+    ensures differs { (damage : Damage) → result ≡ Status.Damaged damage → IsDifference damage }
     // Faults are told only where their count rose.
     ensures host_fault { result ≡ Status.HostFault → Rose (H.faults host.old) (H.faults host.new) }
     ensures inbox_fault { result ≡ Status.InboxFault → Rose (I.faults inbox.old) (I.faults inbox.new) }
@@ -310,19 +313,9 @@ pub fn aptly<H: Host, I: Inbox>(
     ensures inbox_later { I.faults inbox.old ≤ I.faults inbox.new }
 {
     match read_words(alloc, words) {
-        Ok(commands) => run_commands(alloc, host, inbox, &commands, now),
+        Ok(commands) => run_commands(alloc, host, inbox, &commands, now, patterns),
         Err(WordFault::At { place }) => tell_usage(alloc, host, place),
         Err(WordFault::OutOfMemory) => Status::OutOfMemory,
     }
 }
 
-/// A call may be stopped at any moment, or end: the next one may begin on what it left, at the state after the commands that
-/// were answered or one more. So no answered command is ever lost, in any list of calls.
-pub fn calls_hand_over()
-    ensures { HandOverLaw machine }
-{}
-
-/// Files hold one state at most.
-pub fn stored_states_are_equal()
-    ensures { LawOfStoredStates }
-{}

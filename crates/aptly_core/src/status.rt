@@ -2,7 +2,7 @@
 ghost use Rattle.std.specs.Prelude.{◌≡◌};
 ghost use Rattle.aptly_core.specs.Status.{code_of};
 
-use crate::machine_state::Refusal;
+use machine_state::Refusal;
 use ap_text::SafePath;
 
 /// What is wrong in a store that stands for no state.

@@ -2,8 +2,9 @@
 //! folder, and the inbox is the working folder.
 #![tactic(auto)]
 
-use aptly_core::command_words::Words;
 use aptly_core::{Damage, Status, aptly};
+use command_words::Words;
+use query_eval::RegexPatterns;
 use real_edge::{FolderHost, FolderInbox};
 use std::alloc::{AllocError, AllocFailed};
 use std::fs::File;
@@ -71,7 +72,15 @@ fn call<R: Files<File = File> + Print + AllocGlobal + Clone + Drop + Env + Clock
     let now = seconds_now(rt)?;
     let mut host = FolderHost::new(rt, "aptly-store")?;
     let mut inbox = FolderInbox::new(rt, ".")?;
-    Ok(aptly(rt.alloc(), &words, now, &mut host, &mut inbox))
+    let mut patterns = RegexPatterns::new(rt.alloc());
+    Ok(aptly(
+        rt.alloc(),
+        &words,
+        now,
+        &mut host,
+        &mut inbox,
+        &mut patterns,
+    ))
 }
 
 /// The file that a damage is at.

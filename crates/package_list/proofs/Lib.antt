@@ -6,3 +6,4 @@ pub mod Keys
 mod Triples
 mod Gathers
 mod Passed
+pub mod Pushes

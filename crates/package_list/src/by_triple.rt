@@ -1,8 +1,7 @@
 //! A package that is looked up by its name, architecture and version.
-ghost use Rattle.std.specs.Prelude.{◌≡◌, IfOk};
+ghost use Rattle.std.specs.Prelude.{◌≡◌};
 
 use package_core::{Package, compare_packages, has_same_triple};
-use std::alloc::{AllocError, Global};
 use std::cmp::Ordering;
 use std::marker::Model;
 use std::rc::Rc;
@@ -23,12 +22,10 @@ impl Model for ByTriple {
 }
 
 impl ByTriple {
-    pub(crate) fn new(alloc: Global, new: Package) -> Result<ByTriple, AllocError>
-        ensures { IfOk result (λ made. made ≡ new) }
+    pub(crate) fn new(shared: Rc<Package>) -> ByTriple
+        ensures { result ≡ shared.value }
     {
-        Ok(ByTriple {
-            shared: Rc::new(alloc, new)?,
-        })
+        ByTriple { shared }
     }
 
     pub(crate) fn package(&self) -> &Package

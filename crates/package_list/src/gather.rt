@@ -16,16 +16,27 @@ use std::alloc::{AllocError, Global};
 use std::collections::BTreeSet;
 use std::rc::Rc;
 
+/// The same packages, to be shared.
+pub(crate) fn shared(alloc: Global, packages: Vec<Package>) -> Result<Vec<Rc<Package>>, AllocError>
+    ensures { IfOk result (λ v. map rc_value v.items ≡ packages.items) }
+{
+    let mut shared = Vec::with_capacity(alloc, packages.len())?;
+    for package in packages {
+        shared.push(Rc::new(alloc, package)?)?;
+    }
+    Ok(shared)
+}
+
 /// The members that the packages come to, put in one after the other.
 pub(crate) fn gathered(
     alloc: Global,
-    packages: Vec<Package>,
+    packages: &[Rc<Package>],
 ) -> Result<BTreeSet<ByTriple>, ListFault>
-    ensures { MatchResult result (λ members. join_answer packages.items ≡ Ok members.keys) (λ e. FaultIs e (join_answer packages.items)) }
+    ensures { MatchResult result (λ members. join_answer (map rc_value packages.now) ≡ Ok members.keys) (λ e. FaultIs e (join_answer (map rc_value packages.now))) }
 {
     let mut members = BTreeSet::new(alloc);
     for package in packages {
-        gather_one(alloc, &mut members, package)?;
+        gather_one(alloc, &mut members, ByTriple::new(package.clone()?))?;
     }
     Ok(members)
 }
@@ -34,13 +45,12 @@ pub(crate) fn gathered(
 fn gather_one(
     alloc: Global,
     members: &mut BTreeSet<ByTriple>,
-    new: Package,
+    new: ByTriple,
 ) -> Result<bool, ListFault>
     ensures answer { Answers result (insert_answer members.old.keys new) }
     ensures ok { OnOk result (members.new.keys ≡ put package_cmp members.old.keys new) }
 {
     let is_full = members.len() >= MOST;
-    let new = ByTriple::new(alloc, new)?;
     if let Some(member) = members.get(&new) {
         return check_equal(alloc, member.package(), new.package());
     }

@@ -9,6 +9,7 @@ mod join;
 mod laws;
 mod list;
 mod place;
+mod push;
 mod reduce;
 #[cfg(test)]
 mod tests;

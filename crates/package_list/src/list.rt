@@ -1,17 +1,19 @@
 //! Sorted lists of packages.
-ghost use Rattle.std.specs.Prelude.{◌≡◌, ◌≤◌, IfOk, OnOk, OnErr, length, slice_get, [], ◌∷◌, MatchOption, Some, map};
+ghost use Rattle.std.specs.Prelude.{◌≡◌, ◌≤◌, ◌<◌, ◌++◌, ◌↔◌, IfOk, OnOk, OnErr, IsTrue, IsFalse, length, slice_get, [], ◌∷◌, MatchOption, Some, map, if◌then◌else◌};
 ghost use Rattle.std.specs.Rc.{rc_value};
 ghost use Rattle.package_core.specs.Order.{package_cmp};
 ghost use Rattle.std.specs.Option.{option_copied};
-ghost use Rattle.package_list.specs.Sorted.{put, IsAscending, equal_of};
-ghost use Rattle.package_list.specs.Lists.{union, without, has_member, merged, latest};
+ghost use Rattle.package_core.specs.Card.{Card};
+ghost use Rattle.package_list.specs.Sorted.{put, IsAscending, AllLess, equal_of};
+ghost use Rattle.package_list.specs.Lists.{union, without, has_member, clashes, merged, latest};
 ghost use Rattle.package_list.specs.Answers.{Answers, insert_answer, append_answer, size_answer, join_answer};
 
 use crate::apart::apart_union_of;
 use crate::fault::ListFault;
-use crate::gather::{gathered, items_of};
+use crate::gather::{gathered, items_of, shared};
 use crate::join::{copy_items, union_of};
 use crate::place::{clashes_at, equal_in, found_at, is_at, place_of};
+use crate::push::{push_onto, push_shared};
 use crate::reduce::{latest_of, merge_of};
 use package_core::Package;
 use std::alloc::{AllocError, Global};
@@ -56,11 +58,37 @@ impl PackageList {
         }
     }
 
+    /// The list of these packages, which stand in the order of packages, no two of them equal.
+    pub fn from_ascending(items: Vec<Rc<Package>>) -> PackageList
+        requires { IsAscending package_cmp (map rc_value items.items) }
+        ensures { result ≡ map rc_value items.items }
+    {
+        PackageList { items }
+    }
+
+    /// The members stand in the order of packages, no two of them equal.
+    pub fn members_ascend(&self)
+        ensures { IsAscending package_cmp self.now }
+    {
+        let _ = &self.items;
+    }
+
     /// The packages joined in the order in which they stand; of equal ones the first stays. The first that can't join those
     /// before it decides the fault: `Conflict` where none of those is its equal and one of them has its triple; else `Full`
     /// where it would be the 200,001st member. It takes n log n comparisons, and moves each package once.
     pub fn from_packages(alloc: Global, packages: Vec<Package>) -> Result<PackageList, ListFault>
         ensures { Answers result (join_answer packages.items) }
+    {
+        let packages = shared(alloc, packages)?;
+        PackageList::from_shared(alloc, &packages)
+    }
+
+    /// The same of packages that are shared already, and go on being so.
+    pub fn from_shared(
+        alloc: Global,
+        packages: &[Rc<Package>],
+    ) -> Result<PackageList, ListFault>
+        ensures { Answers result (join_answer (map rc_value packages.now)) }
     {
         let members = gathered(alloc, packages)?;
         Ok(PackageList {
@@ -125,6 +153,27 @@ impl PackageList {
         ensures err { OnErr result (self.new ≡ self.old) }
     {
         insert_into(alloc, &mut self.items, new)
+    }
+
+    /// Puts a package behind all members, however many they are. False exactly where one of them isn't less than it; the
+    /// list then stays as it was, as it does where memory is wanting.
+    pub fn push(&mut self, alloc: Global, new: Package) -> Result<bool, AllocError>
+        ensures answer { IfOk result (λ done. IsTrue done ↔ AllLess package_cmp self.old new) }
+        ensures list { IfOk result (λ done. self.new ≡ (if done then self.old ++ new ∷ [] else self.old)) }
+        ensures err { OnErr result (self.new ≡ self.old) }
+    {
+        push_onto(alloc, &mut self.items, new)
+    }
+
+    /// Puts the member at a place of another list behind all members, shared, however many they are. False exactly where
+    /// one of them isn't less than it, or clashes with it; the list then stays as it was, as it does where memory is wanting.
+    pub fn push_of(&mut self, other: &PackageList, place: usize) -> Result<bool, AllocError>
+        requires { place < length other.now }
+        ensures answer { (p : Card) → slice_get other.now place ≡ Some p → IfOk result (λ done. IsTrue done ↔ (AllLess package_cmp self.old p × IsFalse (clashes self.old p))) }
+        ensures list { (p : Card) → slice_get other.now place ≡ Some p → IfOk result (λ done. self.new ≡ (if done then self.old ++ p ∷ [] else self.old)) }
+        ensures err { OnErr result (self.new ≡ self.old) }
+    {
+        push_shared(&mut self.items, &other.items[place])
     }
 
     /// Takes out the equal of the package, and tells whether there was one. It takes no memory.

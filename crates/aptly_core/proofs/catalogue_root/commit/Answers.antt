@@ -1,77 +1,29 @@
-use Rattle.std.proofs.Common.{List, ℕ, [], ◌++◌, inl, Result, Ok, refl, ◌∙◌, ap, subst}
+use Rattle.std.proofs.Common.{[], inl, refl, ◌∙◌}
 use Rattle.std.proofs.lemmas.Result.{err_from_is_err_and}
-use Rattle.ap_host.specs.declared.host.HostErr.{HostErr}
-use Rattle.ap_host.specs.Disk.{Path, extended}
-use Rattle.ap_host.specs.Changes.{GoesOn}
-use Rattle.ap_host.proofs.ChangeLemmas.{GoesOn-then, GoesOn-map, GoesOn-none, EachOp-append}
-use Rattle.stage_file.specs.Stage.{StageState, stage_path, Lays, Places}
+use Rattle.ap_host.proofs.ChangeLemmas.{GoesOn-then, GoesOn-map, GoesOn-none}
 use Rattle.aptly_core.specs.Commits.{IsCommitting}
-use Rattle.aptly_core.specs.Store.{root}
-use Rattle.aptly_core.proofs.CommitLemmas.{laid_so, setting, set_so, barred, committed, committed_rest, lays_committing, lays_target, lay_phase, rest_holds, rest_valid, rename_committing, rename_sets, barriers_each, barriers_target, sets_then, sets_before, commits_err, nothing_phase, Set}
+use Rattle.aptly_core.proofs.CommitLemmas.{barriers_each, barriers_target}
+use Rattle.aptly_core.proofs.ReadyLemmas.{barrier_grows, commits_none, commits_begun, commits_so}
 use Rattle.aptly_core.proofs.catalogue_root.commit.Goals as goal
-
-pub returns-in_err-root-clause-log : goal.returns-in_err-root-clause-log
-returns-in_err-root-clause-log g c =
-    let e = err_from_is_err_and c.from_residual.result c.from_residual.ensures.1 in
-    let s = c.args._old.now in
-    let t = c.args.new.now in
-    GoesOn-none _ _ _ refl (λ l. commits_err s t _ e.0 l [] e.1 tt (inl refl) (λ rest valid. let h = rest_holds s l rest in nothing_phase s t (rest_valid s l rest) valid l [] (λ x may. inl (h.0 x may), h.1) refl))
 
 pub returns-in_err-text-clause-log : goal.returns-in_err-text-clause-log
 returns-in_err-text-clause-log g c =
-    let e = err_from_is_err_and c.from_residual-in_err-text.result c.from_residual-in_err-text.ensures.1 in
+    let e = err_from_is_err_and c.from_residual.result c.from_residual.ensures.1 in
     let s = c.args._old.now in
     let t = c.args.new.now in
-    GoesOn-none _ _ _ refl (λ l. commits_err s t _ e.0 l [] e.1 tt (inl refl) (λ rest valid. let h = rest_holds s l rest in nothing_phase s t (rest_valid s l rest) valid l [] (λ x may. inl (h.0 x may), h.1) refl))
+    GoesOn-none _ _ _ refl (λ l. commits_none s t c.args.stage.now _ e.0 l [] e.1 tt (inl refl) (λ may. commits_begun s t l may.rest))
 
-pub returns-in_err-name-clause-log : goal.returns-in_err-name-clause-log
-returns-in_err-name-clause-log g c =
-    let e = err_from_is_err_and c.from_residual-in_err-name.result c.from_residual-in_err-name.ensures.1 in
+pub returns-in_err-barrier-clause-log : goal.returns-in_err-barrier-clause-log
+returns-in_err-barrier-clause-log g c =
+    let e = err_from_is_err_and c.from_residual-in_err-barrier.result c.from_residual-in_err-barrier.ensures.1 in
     let s = c.args._old.now in
     let t = c.args.new.now in
-    let n = c.args.stage.now.next in
-    GoesOn-map _ _ _ _ c.lay.ensures.log (λ l a lays. commits_err s t _ e.0 l a e.1 (lays_committing n a lays.only) (inl (lays_target (stage_path n) a lays.only)) (λ rest valid. lay_phase s t (rest_valid s l rest) valid n l a (rest_holds s l rest) lays.only))
-
-pub returns-in_err-place-clause-log : goal.returns-in_err-place-clause-log
-returns-in_err-place-clause-log g c =
-    let e = err_from_is_err_and c.from_residual-in_err-place.result c.from_residual-in_err-place.ensures.1 in
-    let s = c.args._old.now in
-    let t = c.args.new.now in
-    let n = c.args.stage.now.next in
-    let r = c.place.result in
-    let name = c.in_ok-name.name in
-    let bytes = c.as_bytes.ensures.value ∙ c.as_str.ensures ∙ c.in_ok-text.ensures in
-    let laid = subst (λ (x : List ℕ). GoesOn (g.H.Host.log c.args.host.now) (g.H.Host.log c.lay.new.host) (Lays (stage_path n) x (Ok name))) bytes c.in_ok-name.ensures.log in
-    let placed = subst (λ (p : Path). GoesOn (g.H.Host.log c.lay.new.host) (g.H.Host.log c.place.new.host) (Places p root r)) c.in_ok-name.ensures.name
-    (subst (λ (q : Path). GoesOn (g.H.Host.log c.lay.new.host) (g.H.Host.log c.place.new.host) (Places name q r)) c.in_ok-root.ensures c.place.ensures.log) in
-    GoesOn-then _ _ _ _ _ _ laid placed (λ l a b lays places. commits_err s t _ e.0 l (a ++ b) e.1
-    (EachOp-append IsCommitting a b (lays_committing n a lays.only) (rename_committing n r b places.did))
-    (sets_then a b (lays_target (stage_path n) a lays.only) (rename_sets (stage_path n) r b places.did))
-    (setting n s t r l a b (laid_so n s t name l a lays) places))
+    let st = c.args.stage.now in
+    let r = c.barrier.result in
+    GoesOn-map _ _ _ _ c.barrier.ensures.log (λ l a w. commits_none s t st _ e.0 l a e.1 (barriers_each IsCommitting st r l a tt w) (inl (barriers_target st r l a w)) (λ may. barrier_grows s t st r l a w may.rest))
 
 pub returns-clause-log : goal.returns-clause-log
 returns-clause-log g c =
     let s = c.args._old.now in
     let t = c.args.new.now in
-    let n = c.args.stage.now.next in
-    let name = c.in_ok-name.name in
-    let st = c.place.new.self in
-    let ok : Result (Unit {0}) HostErr = Ok tt in
-    let r = c.barrier.result in
-    let bytes = c.as_bytes.ensures.value ∙ c.as_str.ensures ∙ c.in_ok-text.ensures in
-    let laid = subst (λ (x : List ℕ). GoesOn (g.H.Host.log c.args.host.now) (g.H.Host.log c.lay.new.host) (Lays (stage_path n) x (Ok name))) bytes c.in_ok-name.ensures.log in
-    let placed = subst (λ (p : Path). GoesOn (g.H.Host.log c.lay.new.host) (g.H.Host.log c.place.new.host) (Places p root ok)) c.in_ok-name.ensures.name
-    (subst (λ (q : Path). GoesOn (g.H.Host.log c.lay.new.host) (g.H.Host.log c.place.new.host) (Places name q ok)) c.in_ok-root.ensures c.in_ok-place.ensures.log) in
-    let set = GoesOn-then _ _ _ _ _ (Set s t) laid placed (λ l a b lays places. record {
-      only = EachOp-append IsCommitting a b (lays_committing n a lays.only) (rename_committing n ok b places.did);
-      once = sets_then a b (lays_target (stage_path n) a lays.only) (rename_sets (stage_path n) ok b places.did);
-      so = set_so n s t tt l a b (laid_so n s t name l a lays) places;
-    }) in
-    let touched = ap (λ (x : StageState). x.touched) c.in_ok-place.ensures.stage in
-    GoesOn-then _ _ _ _ _ _ set c.barrier.ensures.log (λ l a b w barriers. record {
-      only = EachOp-append IsCommitting a b w.only (barriers_each IsCommitting st r (extended a l) b tt barriers);
-      targets = sets_before a b w.once (barriers_target st r (extended a l) b barriers);
-      grows = committed s t st r l a b touched barriers w.so;
-      rests = committed_rest s t st r l a b touched barriers w.so;
-      durable = barred s t st r l a b touched barriers;
-    })
+    GoesOn-then _ _ _ _ _ _ c.in_ok-barrier.ensures.log c.set_root.ensures.log (λ l a b w sets. commits_so s t c.args.stage.now _ c.set_root.result l a b w (sets s t (c.as_str.ensures ∙ c.in_ok-text.ensures)))

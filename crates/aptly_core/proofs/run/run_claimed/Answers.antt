@@ -1,14 +1,10 @@
 use Rattle.ap_host.proofs.ChangeLemmas.{GoesOn-map, GoesOn-then}
-use Rattle.aptly_core.specs.declared.status.Status.TheVariants.{HostFault, OutOfMemory}
-use Rattle.aptly_core.proofs.CallLemmas.{claimed_fault, claimed_ran}
+use Rattle.aptly_core.proofs.CallLemmas.{claimed_none, claimed_ran}
 use Rattle.aptly_core.proofs.run.run_claimed.Goals as goal
 
 pub returns-in-Ok-clause-log : goal.returns-in-Ok-clause-log
 returns-in-Ok-clause-log g c =
-    GoesOn-then _ _ _ _ _ _ c.in-Ok.ensures.log c.run_list.ensures.log (λ l a b w y. claimed_ran c.args.commands.now c.run_list.result c.in-Ok.state l a b c.in-Ok.ensures.valid c.run_list.ensures.only c.run_list.ensures.comes w y)
+    GoesOn-then _ _ _ _ _ _ c.in-Ok.ensures.log c.run_list.ensures.log (λ l a b w y. claimed_ran _ _ _ c.run_list.result c.in-Ok.state _ l a b c.in-Ok.ensures.valid c.run_list.ensures.only c.run_list.ensures.comes w y)
 
-pub returns-in-Err-HostFault-clause-log : goal.returns-in-Err-HostFault-clause-log
-returns-in-Err-HostFault-clause-log g c = GoesOn-map _ _ _ _ c.in-Err-HostFault.ensures.log (λ l a w. claimed_fault c.args.commands.now HostFault _ l a tt w)
-
-pub returns-in-Err-OutOfMemory-clause-log : goal.returns-in-Err-OutOfMemory-clause-log
-returns-in-Err-OutOfMemory-clause-log g c = GoesOn-map _ _ _ _ c.in-Err-OutOfMemory.ensures.log (λ l a w. claimed_fault c.args.commands.now OutOfMemory _ l a tt w)
+pub returns-in-Err-clause-log : goal.returns-in-Err-clause-log
+returns-in-Err-clause-log g c = GoesOn-map _ _ _ _ c.in-Err.ensures.log (λ l a w. claimed_none _ _ _ c.in-Err.fault c.status_of_load.result c.status_of_load.ensures.value l a w)

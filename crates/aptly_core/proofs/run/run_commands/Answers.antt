@@ -7,13 +7,13 @@ use Rattle.aptly_core.proofs.run.run_commands.Goals as goal
 
 pub returns-in-Ok-true-clause-log : goal.returns-in-Ok-true-clause-log
 returns-in-Ok-true-clause-log g c =
-    GoesOn-then _ _ _ _ _ _ c.in-Ok-true.ensures.log c.run_claimed.ensures.log (λ l a b w y. called_claimed c.args.commands.now c.run_claimed.result l a b (subst (λ (x : Bool). Enters (Ok x) a) c.in-Ok-true.field-0-test w) c.run_claimed.ensures.only y)
+    GoesOn-then _ _ _ _ _ _ c.in-Ok-true.ensures.log c.run_claimed.ensures.log (λ l a b w y. called_claimed _ _ tt _ c.run_claimed.result l a b (subst (λ (x : Bool). Enters (Ok x) a) c.in-Ok-true.field-0-test w) c.run_claimed.ensures.only y)
 
 pub returns-in-Ok-false-clause-log : goal.returns-in-Ok-false-clause-log
-returns-in-Ok-false-clause-log g c = GoesOn-map _ _ _ _ c.in-Ok-false.ensures.log (λ l a w. called_busy c.args.commands.now l a (subst (λ (x : Bool). Enters (Ok x) a) c.in-Ok-false.field-0-test w))
+returns-in-Ok-false-clause-log g c = GoesOn-map _ _ _ _ c.in-Ok-false.ensures.log (λ l a w. called_busy _ _ tt _ l a (subst (λ (x : Bool). Enters (Ok x) a) c.in-Ok-false.field-0-test w))
 
 pub returns-in-Err-Failed-clause-log : goal.returns-in-Err-Failed-clause-log
-returns-in-Err-Failed-clause-log g c = GoesOn-map _ _ _ _ c.in-Err-Failed.ensures.log (λ l a w. called_fault c.args.commands.now HostFault l tt a w)
+returns-in-Err-Failed-clause-log g c = GoesOn-map _ _ _ _ c.in-Err-Failed.ensures.log (λ l a w. called_fault _ _ tt _ HostFault l tt a w)
 
 pub returns-in-Err-OutOfMemory-clause-log : goal.returns-in-Err-OutOfMemory-clause-log
-returns-in-Err-OutOfMemory-clause-log g c = GoesOn-map _ _ _ _ c.in-Err-OutOfMemory.ensures.log (λ l a w. called_fault c.args.commands.now OutOfMemory l tt a w)
+returns-in-Err-OutOfMemory-clause-log g c = GoesOn-map _ _ _ _ c.in-Err-OutOfMemory.ensures.log (λ l a w. called_fault _ _ tt _ OutOfMemory l tt a w)

@@ -3,7 +3,7 @@ use Rattle.ap_host.specs.Disk.{extended}
 use Rattle.ap_host.proofs.ChangeLemmas.{EachOp-append, GoesOn-map, GoesOn-then}
 use Rattle.aptly_core.specs.Opens.{IsSettling}
 use Rattle.aptly_core.proofs.CommitLemmas.{barriers_each}
-use Rattle.aptly_core.proofs.SettleLemmas.{clears_each, clear_phase, settle_phase, settle_rest, settles_err}
+use Rattle.aptly_core.proofs.SettleLemmas.{clears_each, clear_phase, settle_phase, settle_rest, settle_durable, settle_cleared, settling_live, settles_err}
 use Rattle.aptly_core.proofs.run.settle.Goals as goal
 
 pub returns-in_err-clear-clause-log : goal.returns-in_err-clear-clause-log
@@ -15,8 +15,14 @@ pub returns-clause-log : goal.returns-clause-log
 returns-clause-log g c =
     let st = c.clear.new.self in
     let r = c.barrier.result in
-    GoesOn-then _ _ _ _ _ _ c.in_ok-clear.ensures.log c.barrier.ensures.log (λ l a b w barriers. record {
-      only = EachOp-append IsSettling a b (clears_each IsSettling (λ p is. is) a w.only) (barriers_each IsSettling st r (extended a l) b tt barriers);
+    let old = c.args.stage.now in
+    GoesOn-then _ _ _ _ _ _ c.in_ok-clear.ensures.log c.barrier.ensures.log (λ l a b w barriers.
+    let only = EachOp-append IsSettling a b (clears_each IsSettling (λ p is. is) a w.only) (barriers_each IsSettling st r (extended a l) b tt barriers) in
+    record {
+      only = only;
       grows = λ s durable stands. settle_phase s l durable stands a b w.only st r barriers;
-      rests = λ s durable stands. settle_rest s l durable stands a b w.only st r barriers c.args.stage.now w.marked;
+      rests = λ s durable stands. settle_rest s l durable stands a b w.only st r barriers old w.marked;
+      durable = settle_durable l a b old st w.marked r barriers;
+      cleared = settle_cleared l a b old st w.marked r barriers w.cleared;
+      same = λ q not. settling_live q not _ l only;
     })

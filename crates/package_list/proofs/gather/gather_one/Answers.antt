@@ -11,30 +11,30 @@ use Rattle.package_list.proofs.gather.gather_one.Goals as goal
 
 pub returns-in-Some-clause-answer : goal.returns-in-Some-clause-answer
 returns-in-Some-clause-answer c =
-    let found : find (of_triple c.args.new) c.args.members.now.keys ≡ Some c.in-Some.member.now = ap (λ p. find (of_triple p) c.args.members.now.keys) (sym c.in_ok-new.ensures) ∙ sym c.in-Some.ensures.key in
-    let new = c.package-in-Some.ensures ∙ c.in_ok-new.ensures in
+    let found : find (of_triple c.args.new) c.args.members.now.keys ≡ Some c.in-Some.member.now = sym c.in-Some.ensures.key in
+    let new = c.package-in-Some.ensures in
     subst (Answers c.check_equal.result)
     ((λ i. cond (is_eq (package_cmp (c.package.ensures i) (new i))) (Ok false) (Err (Conflict (triple (new i))))) ∙ sym (found_decides c.args.members.now.keys c.args.new c.in-Some.member.now c.len-is_full.ensures.ordered found))
     c.check_equal.ensures
 
 pub returns-in-Some-clause-ok : goal.returns-in-Some-clause-ok
 returns-in-Some-clause-ok c =
-    let found : find (of_triple c.args.new) c.args.members.now.keys ≡ Some c.in-Some.member.now = ap (λ p. find (of_triple p) c.args.members.now.keys) (sym c.in_ok-new.ensures) ∙ sym c.in-Some.ensures.key in
-    let new = c.package-in-Some.ensures ∙ c.in_ok-new.ensures in
+    let found : find (of_triple c.args.new) c.args.members.now.keys ≡ Some c.in-Some.member.now = sym c.in-Some.ensures.key in
+    let new = c.package-in-Some.ensures in
     if_equal c.check_equal.result _ _ c.check_equal.ensures
     (λ e. sym (found_stays c.args.members.now.keys c.args.new c.in-Some.member.now c.len-is_full.ensures.ordered found ((λ i. is_eq (package_cmp (sym c.package.ensures i) (sym new i))) ∙ e)))
 
 pub returns-then-is_full-clause-answer : goal.returns-then-is_full-clause-answer
 returns-then-is_full-clause-answer c =
-    let none : find (of_triple c.args.new) c.args.members.now.keys ≡ None = ap (λ p. find (of_triple p) c.args.members.now.keys) (sym c.in_ok-new.ensures) ∙ sym c.in_default.ensures.key in
+    let none : find (of_triple c.args.new) c.args.members.now.keys ≡ None = sym c.in_default.ensures.key in
     none_decides c.args.members.now.keys c.args.new none ∙ (search rules)
 
 pub returns-clause-answer : goal.returns-clause-answer
 returns-clause-answer c =
-    let none : find (of_triple c.args.new) c.args.members.now.keys ≡ None = ap (λ p. find (of_triple p) c.args.members.now.keys) (sym c.in_ok-new.ensures) ∙ sym c.in_default.ensures.key in
+    let none : find (of_triple c.args.new) c.args.members.now.keys ≡ None = sym c.in_default.ensures.key in
     none_decides c.args.members.now.keys c.args.new none ∙ (search rules)
 
 pub returns-clause-ok : goal.returns-clause-ok
 returns-clause-ok c =
-    let none : find (of_triple c.args.new) c.args.members.now.keys ≡ None = ap (λ p. find (of_triple p) c.args.members.now.keys) (sym c.in_ok-new.ensures) ∙ sym c.in_default.ensures.key in
-    c.in_ok-insert.ensures.keys ∙ ap (insert_key triple_cmp c.args.members.now.keys) c.in_ok-new.ensures ∙ key_is_put c.args.members.now.keys c.args.new none
+    let none : find (of_triple c.args.new) c.args.members.now.keys ≡ None = sym c.in_default.ensures.key in
+    c.in_ok-insert.ensures.keys ∙ key_is_put c.args.members.now.keys c.args.new none

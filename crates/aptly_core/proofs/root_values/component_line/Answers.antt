@@ -1,6 +1,0 @@
-use Rattle.std.proofs.lemmas.Option.{MatchOption-at_none}
-use Rattle.aptly_core.proofs.ValueLemmas.{component_name}
-use Rattle.aptly_core.proofs.root_values.component_line.Goals as goal
-
-pub returns-in-None : goal.returns-in-None
-returns-in-None c = λ a more g e. MatchOption-at_none {o = c.in_ok-name_line.field-0} _ _ c.in-None.is c.in_ok-name_line.ensures a more (component_name a g) e

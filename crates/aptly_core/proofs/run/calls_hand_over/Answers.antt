@@ -1,7 +1,0 @@
-use Rattle.run_model.proofs.Opens.{hand_over_law}
-use Rattle.aptly_core.specs.Machine.{machine}
-use Rattle.aptly_core.proofs.Lawful.{lawful}
-use Rattle.aptly_core.proofs.run.calls_hand_over.Goals as goal
-
-pub returns : goal.returns
-returns c = hand_over_law machine lawful

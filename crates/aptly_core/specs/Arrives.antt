@@ -1,0 +1,61 @@
+-- What the deciding of a command adds to the log: the files that it takes in.
+use Rattle.std.specs.Prelude.{◌≡◌, ℕ, List, [], ◌∷◌, All, Option, Some, None, Result, Ok, Err, IfOk, IfSome, length, ◌≤◌}
+use Rattle.ap_host.specs.declared.host.Op.{Op}
+use Rattle.ap_host.specs.Disk.{Files, Log, extended, live_of}
+use Rattle.stage_file.specs.Stage.{StageState, IsInStep}
+use Rattle.package_core.specs.Card.{Card}
+use Rattle.hash_pool.specs.Growth.{PoolGrows}
+use Rattle.machine_state.specs.declared.arrived.Arrived.{Arrived}
+use Rattle.machine_state.specs.declared.arrived.Arrived.TheVariants as arrivals
+use Rattle.machine_state.specs.declared.arrived.UpdateFault.{UpdateFault}
+use Rattle.machine_state.specs.declared.arrived.UpdateFault.TheVariants as updates
+use Rattle.machine_state.specs.Values.{StateView}
+use Rattle.machine_step.specs.declared.outcome.Outcome.{Outcome}
+use Rattle.machine_step.specs.declared.outcome.Reading.{Reading}
+use Rattle.machine_step.specs.declared.outcome.Reading.TheVariants as readings
+use Rattle.local_repo.specs.Answers.{IsArrival}
+use Rattle.local_repo.specs.Bodies.{HasBody}
+use Rattle.aptly_core.specs.declared.fault.RunFault.{RunFault}
+use Rattle.aptly_core.specs.declared.fault.RunFault.TheVariants.{HostFault, InboxFault, OutOfMemory}
+use Rattle.aptly_core.specs.Store.{BodiesApart, Stored}
+
+-- a refusal of what was read has arrived too
+abbrev pub arrived_of : Result Arrived UpdateFault → Result Arrived RunFault
+arrived_of (Ok arrived) = Ok arrived
+arrived_of (Err (updates.Refused refusal)) = Ok (arrivals.Refused refusal)
+arrived_of (Err updates.HostFault) = Err HostFault
+arrived_of (Err updates.InboxFault) = Err InboxFault
+arrived_of (Err updates.OutOfMemory) = Err OutOfMemory
+
+-- the packages that arrived
+abbrev pub list_in : Arrived → List Card
+list_in (arrivals.List list date) = list
+list_in arrivals.Nothing = []
+list_in (arrivals.Refused refusal) = []
+
+-- what may arrive where this is to be read
+abbrev pub ArrivesFor : Option Files → StateView → Reading → Arrived → Type 0
+ArrivesFor input state readings.Nothing arrived = arrived ≡ arrivals.Nothing
+ArrivesFor input state (readings.Mirror name) arrived = arrived ≡ arrivals.Nothing
+ArrivesFor input state (readings.Folder name folder) arrived = length folder ≤ 200 → IsArrival input state name folder arrived
+
+-- Files were taken into the pool, all that arrived among them.
+pub record Arrives (input : Option Files) (state : StateView) (before now : StageState) (result : Result Arrived RunFault) (l : Log) (ops : List Op) : Type 0 where
+  pub grows : PoolGrows l ops
+  pub step : IsInStep before l → IsInStep now (extended ops l)
+  pub apart : BodiesApart input (live_of l) → BodiesApart input (live_of (extended ops l))
+  pub bodies : IfOk result (λ arrived. Stored (live_of l) state → BodiesApart input (live_of l) → All (HasBody (live_of (extended ops l))) (list_in arrived))
+
+-- Files were taken into the pool, all that the new state knows among them.
+pub record Decides (input : Option Files) (state : StateView) (before now : StageState) (result : Result Outcome RunFault) (l : Log) (ops : List Op) : Type 0 where
+  pub grows : PoolGrows l ops
+  pub step : IsInStep before l → IsInStep now (extended ops l)
+  pub apart : BodiesApart input (live_of l) → BodiesApart input (live_of (extended ops l))
+  pub bodies : IfOk result (λ outcome. Stored (live_of l) state → BodiesApart input (live_of l) → IfSome outcome.state (λ next. All (HasBody (live_of (extended ops l))) next.known))
+
+-- the same, where the reading is that of the command
+pub record DecidesIf (Fits : Type 0) (input : Option Files) (state : StateView) (before now : StageState) (result : Result Outcome RunFault) (l : Log) (ops : List Op) : Type 0 where
+  pub grows : PoolGrows l ops
+  pub step : IsInStep before l → IsInStep now (extended ops l)
+  pub apart : BodiesApart input (live_of l) → BodiesApart input (live_of (extended ops l))
+  pub bodies : IfOk result (λ outcome. Fits → Stored (live_of l) state → BodiesApart input (live_of l) → IfSome outcome.state (λ next. All (HasBody (live_of (extended ops l))) next.known))

@@ -1,0 +1,114 @@
+//! What a command comes to: what it needs is read, and its step is made.
+ghost use Rattle.std.specs.Prelude.{◌≡◌, ◌≤◌, None, IfOk, IsSome};
+ghost use Rattle.ap_host.specs.Calls.{CauseOf};
+ghost use Rattle.ap_host.specs.Changes.{GoesOn};
+ghost use Rattle.command_words.specs.Plain.{plain};
+ghost use Rattle.machine_state.specs.State.{Valid};
+ghost use Rattle.machine_step.specs.Answers.{IsNew, Told, reading_for, seen};
+ghost use Rattle.machine_step.specs.Early.{folder_read};
+ghost use Rattle.machine_step.specs.Step.{Step};
+ghost use Rattle.aptly_core.specs.declared.fault.RunFault.TheVariants.{HostFault, InboxFault};
+ghost use Rattle.aptly_core.specs.Arrives.{Arrives, ArrivesFor, Decides, DecidesIf, arrived_of};
+
+use crate::fault::RunFault;
+use ap_host::{Host, Inbox};
+use command_words::Command;
+use local_repo::add;
+use machine_state::{Arrived, ChangeFault, State, UpdateFault};
+use machine_step::{Outcome, Reading, need, step};
+use query_eval::Patterns;
+use stage_file::Stage;
+use std::alloc::Global;
+
+/// A refusal of what was read has arrived too.
+fn arrived_of(given: Result<Arrived, UpdateFault>) -> Result<Arrived, RunFault>
+    ensures { result ≡ arrived_of given }
+{
+    match given {
+        Ok(arrived) => Ok(arrived),
+        Err(UpdateFault::Refused(refusal)) => Ok(Arrived::Refused(refusal)),
+        Err(UpdateFault::HostFault) => Err(RunFault::HostFault),
+        Err(UpdateFault::InboxFault) => Err(RunFault::InboxFault),
+        Err(UpdateFault::OutOfMemory) => Err(RunFault::OutOfMemory),
+    }
+}
+
+/// Reads what a command needs.
+fn arrive<H: Host, I: Inbox>(
+    alloc: Global,
+    host: &mut H,
+    inbox: &mut I,
+    stage: &mut Stage,
+    state: &State,
+    reading: Reading,
+) -> Result<Arrived, RunFault>
+    ensures arrived { Valid state.now → IfOk result (ArrivesFor (I.map inbox.old) state.now reading) }
+    ensures log { GoesOn (H.log host.old) (H.log host.new) (Arrives (I.map inbox.old) state.now stage.old stage.new result) }
+    ensures map { I.map inbox.new ≡ I.map inbox.old }
+    ensures host_cause { CauseOf HostFault (H.faults host.old) (H.faults host.new) result }
+    ensures inbox_cause { CauseOf InboxFault (I.faults inbox.old) (I.faults inbox.new) result }
+{
+    match reading {
+        Reading::Nothing => Ok(Arrived::Nothing),
+        Reading::Mirror(_) => Ok(Arrived::Nothing),
+        Reading::Folder(name, folder) => {
+            arrived_of(add(alloc, host, stage, inbox, state, &name, &folder))
+        }
+    }
+}
+
+/// What a command comes to in a valid state that isn't refused before anything is read: what this reading brings, and then
+/// its step.
+fn decide_with<H: Host, I: Inbox, M: Patterns>(
+    alloc: Global,
+    host: &mut H,
+    inbox: &mut I,
+    stage: &mut Stage,
+    state: &State,
+    command: &Command,
+    now: i64,
+    patterns: &mut M,
+    reading: Reading,
+) -> Result<Outcome, RunFault>
+    ensures comes { Valid state.now → reading ≡ reading_for (folder_read state.now (plain command.now)) → IfOk result (λ outcome. Told (M.refusals patterns.old) (M.refusals patterns.new) (M.refused patterns.new) (λ large. Step (I.map inbox.old) large state.now (plain command.now) (seen state.now outcome))) }
+    ensures changed { Valid state.now → reading ≡ reading_for (folder_read state.now (plain command.now)) → IfOk result (λ outcome. IsNew state.now outcome.state) }
+    ensures kept { IfOk result (λ outcome. IsSome outcome.refusal → outcome.state ≡ None) }
+    ensures later { M.refusals patterns.old ≤ M.refusals patterns.new }
+    ensures log { GoesOn (H.log host.old) (H.log host.new) (DecidesIf (reading ≡ reading_for (folder_read state.now (plain command.now))) (I.map inbox.old) state.now stage.old stage.new result) }
+    ensures map { I.map inbox.new ≡ I.map inbox.old }
+    ensures host_cause { CauseOf HostFault (H.faults host.old) (H.faults host.new) result }
+    ensures inbox_cause { CauseOf InboxFault (I.faults inbox.old) (I.faults inbox.new) result }
+{
+    let arrived = arrive(alloc, host, inbox, stage, state, reading)?;
+    Ok(step(alloc, state, command, arrived, now, patterns)?)
+}
+
+/// What a command comes to in a valid state. Files that it takes in are in the pool then, and durable only after the next
+/// barrier.
+pub fn decide<H: Host, I: Inbox, M: Patterns>(
+    alloc: Global,
+    host: &mut H,
+    inbox: &mut I,
+    stage: &mut Stage,
+    state: &State,
+    command: &Command,
+    now: i64,
+    patterns: &mut M,
+) -> Result<Outcome, RunFault>
+    ensures comes { Valid state.now → IfOk result (λ outcome. Told (M.refusals patterns.old) (M.refusals patterns.new) (M.refused patterns.new) (λ large. Step (I.map inbox.old) large state.now (plain command.now) (seen state.now outcome))) }
+    ensures changed { Valid state.now → IfOk result (λ outcome. IsNew state.now outcome.state) }
+    ensures kept { IfOk result (λ outcome. IsSome outcome.refusal → outcome.state ≡ None) }
+    ensures later { M.refusals patterns.old ≤ M.refusals patterns.new }
+    ensures log { GoesOn (H.log host.old) (H.log host.new) (Decides (I.map inbox.old) state.now stage.old stage.new result) }
+    ensures map { I.map inbox.new ≡ I.map inbox.old }
+    ensures host_cause { CauseOf HostFault (H.faults host.old) (H.faults host.new) result }
+    ensures inbox_cause { CauseOf InboxFault (I.faults inbox.old) (I.faults inbox.new) result }
+{
+    match need(alloc, state, command, patterns) {
+        Ok(reading) => decide_with(
+            alloc, host, inbox, stage, state, command, now, patterns, reading,
+        ),
+        Err(ChangeFault::Refused(refusal)) => Ok(Outcome::refused(alloc, refusal)?),
+        Err(ChangeFault::OutOfMemory) => Err(RunFault::OutOfMemory),
+    }
+}

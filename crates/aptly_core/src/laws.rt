@@ -1,0 +1,13 @@
+//! Laws of calls and of stores. Each function does nothing, and has the law as its contract.
+ghost use Rattle.aptly_core.specs.Calls.{LawOfHandOver, LawOfStoredStates};
+
+/// A call may be stopped at any moment, or end: the next one may begin on what it left, at the state after the commands that
+/// were answered or one more. So no answered command is ever lost, in any list of calls.
+pub fn calls_hand_over()
+    ensures { LawOfHandOver }
+{}
+
+/// Files hold one state at most, where no two package texts in the root share a SHA-256.
+pub fn stored_states_are_equal()
+    ensures { LawOfStoredStates }
+{}

@@ -1,0 +1,10 @@
+pub mod LineLemmas
+pub mod ValueLemmas
+pub mod Parts
+pub mod PlainLemmas
+pub mod RootParts
+pub mod TakesLemmas
+pub mod ValidLemmas
+pub mod RootTexts
+pub mod KnownLemmas
+pub mod ReadLemmas

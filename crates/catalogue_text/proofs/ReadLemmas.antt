@@ -1,0 +1,328 @@
+-- The reading of each part: what is read, and where it stops.
+use Rattle.std.proofs.Common.{◌≡◌, ◌⊎◌, inl, inr, ℕ, zero, suc, ◌+◌, ◌<◌, ◌≤◌, ◌^◌, ◌↔◌, Bool, true, false, cond, if◌then◌else◌, List, [], ◌∷◌, ◌++◌, length, map, get_or, Option, Some, None, Result, Ok, Err, IfSome, IsTrue, IsFalse, All, codes, refl, sym, ap, ◌∙◌, subst, arith, append-nil, append_assoc, length-append, Ordering, Less, Equal, Greater}
+use Rattle.std.specs.Prelude.{slice_get, MatchBool}
+use Rattle.std.specs.List.{flat_map}
+use Rattle.std.specs.Result.{IfOk, IfErr}
+use Rattle.std.specs.Fmt.{decimal}
+use Rattle.std.specs.Ordering.{is_lt}
+use Rattle.std.proofs.lemmas.Bool.{true≢false}
+use Rattle.std.proofs.lemmas.Cmp.{nat_list_cmp_total}
+use Rattle.std.proofs.lemmas.List.{append_cancel_left}
+use Rattle.std.proofs.lemmas.List.Concat.{flat_map-append, flat_map_single}
+use Rattle.package_core.specs.Card.{Card}
+use Rattle.package_core.specs.Order.{package_cmp}
+use Rattle.package_list.specs.Sorted.{AllLess, IsAscending}
+use Rattle.package_list.specs.Lists.{clashes}
+use Rattle.machine_state.specs.declared.limit.Limit.TheVariants.{Repos, Packages, Known}
+use Rattle.machine_state.specs.declared.repo.Repo.{Repo}
+use Rattle.machine_state.specs.Ascending as names
+use Rattle.machine_state.specs.Limits.{limit_number}
+use Rattle.machine_state.specs.State.{name_cmp, repo_cmp, IsKnown, IsLineText}
+use Rattle.catalogue_text.specs.Lines.{IsLine}
+use Rattle.catalogue_text.specs.Pieces.{Piece, alone, packed, Begins, Takes}
+use Rattle.catalogue_text.specs.Root.{id_of, set_line, known_line, repos_line, name_line, comment_line, distribution_line, component_line, set_pieces, known_pieces, repos_pieces, repo_pieces, last_pieces}
+use Rattle.catalogue_text.specs.Grammar.{IsNext, Line, Series, Count, NextPackage, NextMember, MayJoin, SetPart, NextRepo, KnownPart, ReposPart, LastPart, IsWithinLimits}
+use Rattle.catalogue_text.specs.declared.stop.Stop.{Stop}
+use Rattle.catalogue_text.specs.declared.stop.Stop.TheVariants.{Before, OutOfMemory}
+use Rattle.catalogue_text.specs.Reading.{IfBefore, NoLine, ReadsLine, Stops, Always, Each, ReadsSeries, ReadsPart, GoodSet, GoodRepo, GoodKnown, GoodRepos, PlaceIs, IdsApart, AddsMember}
+use Rattle.catalogue_text.proofs.LineLemmas.{line_unique, same_line}
+use Rattle.catalogue_text.proofs.Parts.{IsPart, IsTold, IsOther, takes_both, line_of, stops_line, stops_first, stops_then, stops_as, stops_series, series_part}
+use Rattle.catalogue_text.proofs.RootParts.{Any, package_pieces, package_part, package_told, fixed_part, fixed_told, count_part, count_told, member_pieces, member_part, member_told, repo_part, repo_told, IsDistribution, IsComponent, FromSet, FromComponent, FromDistribution, FromComment, set_of, component_of, distribution_of, comment_of, GoodFromSet, GoodFromComponent, GoodFromDistribution, GoodFromComment, made, set_part, from_set, from_component, from_distribution, from_comment, name_part, name_told, comment_part, comment_told, distribution_part, distribution_told, component_part, component_told, KnownSeries, counted_known, ReposSeries, repos_of, GoodCounted, counted_repos, EndLine, FromPublications, end_part, end_told, publications_part}
+use Rattle.catalogue_text.proofs.PlainLemmas.{known_other, repos_other, set_other}
+use Rattle.catalogue_text.proofs.ValidLemmas.{NamesBefore, all_cons, all_tail, all_none, known_at, place_at}
+
+pub not_pushed : (b : Bool) (P Q : Type 0) → b ≡ false → MatchBool b P Q → Q
+not_pushed true P Q e h = absurd (true≢false e)
+not_pushed false P Q e h = h
+
+-- ---- one more of a series
+pub takes_push : {X : Type 0} (pieces : X → List Piece) (xs : List X) (x : X) (text mid rest : List ℕ) → Takes text (flat_map pieces xs) mid → Takes mid (pieces x) rest → Takes text (flat_map pieces (xs ++ x ∷ [])) rest
+takes_push pieces xs x text mid rest t u =
+    subst (λ (l : List Piece). Takes text l rest) (sym (flat_map-append pieces xs (x ∷ []) ∙ ap (λ l. flat_map pieces xs ++ l) (append-nil (pieces x)))) (takes_both text mid rest (flat_map pieces xs) (pieces x) t u)
+
+pub length_push : {X : Type 0} (xs : List X) (x : X) (n : ℕ) → length xs ≡ n → length (xs ++ x ∷ []) ≡ n + 1
+length_push xs x n e = let a = length-append xs (x ∷ []) in omega arith
+
+-- a series with one more
+module _ {X : Type 0} (pieces : X → List Piece) (Good : List X → X → Type 0) where
+  pub record IsRead (count : ℕ) (text : List ℕ) (xs : List X) (rest : List ℕ) : Type 0 where
+    pub counted : length xs ≡ count
+    pub good : Each Good [] xs
+    pub takes : Takes text (flat_map pieces xs) rest
+
+  pub reads_more : (count : ℕ) (text mid rest : List ℕ) (xs ys : List X) (x : X) → IsRead count text xs mid → Good xs x → Takes mid (pieces x) rest → ys ≡ xs ++ x ∷ [] → IsRead (count + 1) text ys rest
+  reads_more count text mid rest xs ys x r g t e = subst (λ (l : List X). IsRead (count + 1) text l rest) (sym e) (record {
+    counted = length_push xs x count r.counted;
+    good = each_push_of xs x r.good g;
+    takes = takes_push pieces xs x text mid rest r.takes t;
+  })
+    where
+      pushed : (done xs : List X) (x : X) → Each Good done xs → Good (done ++ xs) x → Each Good done (xs ++ x ∷ [])
+      pushed done [] x e g = (subst (λ (d : List X). Good d x) (append-nil done) g, tt)
+      pushed done (y ∷ ys) x e g = (e.0, pushed (done ++ y ∷ []) ys x e.1 (subst (λ (d : List X). Good d x) (sym (append_assoc done (y ∷ []) ys)) g))
+
+      each_push_of : (xs : List X) (x : X) → Each Good [] xs → Good xs x → Each Good [] (xs ++ x ∷ [])
+      each_push_of xs x e g = pushed [] xs x e g
+
+-- ---- where one stops
+pub stops_package : (before : List Card) (text : List ℕ) → ((p : Card) (behind : List ℕ) → Begins text (packed p) behind → AllLess package_cmp before p → ⊥) → Stops (NextPackage before) text (length text)
+stops_package before text none = record {
+  good = [];
+  rest = text;
+  takes = refl;
+  left_is = refl;
+  stand = tt;
+  bad = never;
+}
+  where
+    never : (next : Piece) (behind : List ℕ) → Takes text (next ∷ []) behind → NextPackage before Always (next ∷ []) → ⊥
+    never (alone l) behind t h = h
+    never (packed p) behind t h = none p t.0 t.1 h.0
+
+pub stops_packages : (count : ℕ) (text rest : List ℕ) (xs : List Card) → length xs < count → Each (AllLess package_cmp) [] xs → Takes text (flat_map package_pieces xs) rest → ((p : Card) (behind : List ℕ) → Begins rest (packed p) behind → AllLess package_cmp xs p → ⊥) → Stops (Series count NextPackage []) text (length rest)
+stops_packages count text rest xs few g t none = stops_series NextPackage package_pieces (AllLess package_cmp) package_part package_told count text rest xs (length rest) few g t (stops_package xs rest none)
+
+pub stops_members : (known : List Card) → IdsApart known → (count : ℕ) (text rest : List ℕ) (xs : List Card) → length xs < count → Each (MayJoin known) [] xs → Takes text (flat_map member_pieces xs) rest → NoLine id_of (MayJoin known xs) rest → Stops (Series count (NextMember known) []) text (length rest)
+stops_members known apart count text rest xs few g t none = stops_series (NextMember known) member_pieces (MayJoin known) (member_part known) (member_told known apart) count text rest xs (length rest) few g t (stops_line id_of (MayJoin known xs) rest none)
+
+pub stops_repos : (known : List Card) → IdsApart known → (count : ℕ) (text rest : List ℕ) (xs : List Repo) (left : ℕ) → length xs < count → Each (GoodRepo known) [] xs → Takes text (flat_map repo_pieces xs) rest → Stops (NextRepo known xs) rest left → Stops (Series count (NextRepo known) []) text left
+stops_repos known apart count text rest xs left few g t s = stops_series (NextRepo known) repo_pieces (GoodRepo known) (repo_part known) (λ before. repo_told known before apart) count text rest xs left few g t s
+
+-- ---- a counted series
+module _ {X : Type 0} (key : List ℕ) (most : ℕ) (other : (n : ℕ) → IsOther (key ++ decimal n)) (bound : most < 2 ^ 64) (One : List X → (X → List Piece → Type 0) → List Piece → Type 0) (pieces : X → List Piece) (Good : List X → X → Type 0) (one : (done : List X) → IsPart (One done) pieces (Good done)) where
+  abbrev spelled : ℕ → List ℕ
+  spelled n = key ++ decimal n
+
+  abbrev pub Counted : (List X → List Piece → Type 0) → List Piece → Type 0
+  Counted K = Count spelled most (λ n. Series n One [] K)
+
+  abbrev GoodOf : ℕ → List X → Type 0
+  GoodOf n xs = (n ≡ length xs) × Each Good [] xs
+
+  pub counted_in : (text : List ℕ) (n : ℕ) → n ≡ most → NoLine spelled (λ k. k ≤ n) text → Stops Counted text (length text)
+  counted_in text n e none =
+      stops_first (Count spelled most) (λ n. Series n One []) (line_of spelled) (flat_map pieces) (λ n. n ≤ most) GoodOf length (count_part spelled most other) (series_part One pieces Good one) text (length text)
+      (stops_line spelled (λ k. k ≤ most) text (subst (λ (m : ℕ). NoLine spelled (λ k. k ≤ m) text) e none))
+
+  pub counted_up : (text rest : List ℕ) (n left : ℕ) → n ≤ most → IsLine text (spelled n) rest → Stops (Series n One []) rest left → Stops Counted text left
+  counted_up text rest n left few l s =
+      stops_then (Count spelled most) (λ n. Series n One []) (line_of spelled) (flat_map pieces) (λ n. n ≤ most) GoodOf length (count_part spelled most other) (series_part One pieces Good one) (count_told key most bound) text rest left n few (rest, l, refl) s
+
+-- ---- a fixed line before a part
+module _ {A : Type 0} (line : List ℕ) (other : IsOther line) (F : (A → List Piece → Type 0) → List Piece → Type 0) (pieces : A → List Piece) (Good : A → Type 0) (f : IsPart F pieces Good) where
+  abbrev pub Behind : (A → List Piece → Type 0) → List Piece → Type 0
+  Behind K = Line {A = Unit {0}} (λ u. line) Any (λ u. F K)
+
+  pub fixed_in : (text : List ℕ) → ((behind : List ℕ) → IsLine text line behind → ⊥) → Stops Behind text (length text)
+  fixed_in text none =
+      stops_first (Line {A = Unit {0}} (λ u. line) Any) (λ u. F) (λ u. alone line ∷ []) pieces Any (λ u. Good) (λ a. tt) (fixed_part line other) (λ u. f) text (length text)
+      (stops_line (λ u. line) Any text (λ u behind g l. none behind l))
+
+  pub fixed_up : (text rest : List ℕ) (left : ℕ) → IsLine text line rest → Stops F rest left → Stops Behind text left
+  fixed_up text rest left l s =
+      stops_then (Line {A = Unit {0}} (λ u. line) Any) (λ u. F) (λ u. alone line ∷ []) pieces Any (λ u. Good) (λ a. tt) (fixed_part line other) (λ u. f) (fixed_told line) text rest left tt tt (rest, l, refl) s
+
+-- ---- members
+pub no_member : (known list : List Card) (text id rest : List ℕ) (found : Option ℕ) → PlaceIs known id found → ((i : ℕ) → found ≡ Some i → ⊥) → IsLine text id rest → NoLine id_of (MayJoin known list) text
+no_member known list text id rest None h none l a behind m k =
+    let p = place_at known a m.known_is in
+    h p.0 a p.1 (sym (line_unique text id (id_of a) rest behind l k).0)
+no_member known list text id rest (Some i) h none l a behind m k = none i refl
+
+in_list : (xs : List Card) (i : ℕ) (p : Card) → slice_get xs i ≡ Some p → i < length xs
+in_list [] i p e = cc
+in_list (x ∷ xs) zero p e = omega arith
+in_list (x ∷ xs) (suc i) p e = let l = in_list xs i p e in omega arith
+
+abbrev pub PlaceFound : List Card → List ℕ → ℕ → Type 0
+PlaceFound known id place = (p : Card) × (slice_get known place ≡ Some p) × (id_of p ≡ id)
+
+pub place_found : (known : List Card) (id : List ℕ) (found : Option ℕ) (place : ℕ) → PlaceIs known id found → found ≡ Some place → PlaceFound known id place
+place_found known id None place h e = cc
+place_found known id (Some i) place h e = let same : i ≡ place = cc in subst (PlaceFound known id) same h
+
+pub place_inside : (known : List Card) (id : List ℕ) (place : ℕ) → PlaceFound known id place → place < length known
+place_inside known id place h = in_list known place h.0 h.1
+
+pub joins : (known list after : List Card) (text id rest : List ℕ) (place : ℕ) (done : Bool) (h : PlaceFound known id place) → IsAscending package_cmp known → done ≡ true
+    → (IsTrue done ↔ (AllLess package_cmp list h.0 × IsFalse (clashes list h.0))) → after ≡ (if done then list ++ h.0 ∷ [] else list) → IsLine text id rest → AddsMember known list text after rest
+joins known list after text id rest place done h sorted t answer e l =
+    let both = answer.0 t in
+    (
+      h.0,
+      (record { known_is = known_at known place h.0 sorted h.1; after = both.0; apart = both.1 }, same_line text id rest (id_of h.0) l (sym h.2)),
+      e ∙ ap (λ b. if b then list ++ h.0 ∷ [] else list) t,
+    )
+
+pub joins_not : (known list : List Card) (text id rest : List ℕ) (place : ℕ) (done : Bool) (h : PlaceFound known id place) → IsAscending package_cmp known → done ≡ false
+    → (IsTrue done ↔ (AllLess package_cmp list h.0 × IsFalse (clashes list h.0))) → IsLine text id rest → IdsApart known → NoLine id_of (MayJoin known list) text
+joins_not known list text id rest place done h sorted f answer l apart a behind m k =
+    let same : a ≡ h.0 = apart a h.0 m.known_is (known_at known place h.0 sorted h.1) (sym (line_unique text id (id_of a) rest behind l k).0 ∙ sym h.2) in
+    true≢false (sym (answer.1 (subst (AllLess package_cmp list) same m.after, ap (clashes list) (sym same) ∙ m.apart)) ∙ f)
+
+-- ---- names
+pub names_by_last : (front : List Repo) (last : Repo) (name : List ℕ) → names.IsAscending repo_cmp (front ++ last ∷ []) → name_cmp last name ≡ Less → NamesBefore (front ++ last ∷ []) name
+names_by_last [] last name a h = all_cons (λ repo. name_cmp repo name ≡ Less) last [] h (all_none (λ repo. name_cmp repo name ≡ Less))
+names_by_last (r ∷ rs) last name a h =
+    all_cons (λ repo. name_cmp repo name ≡ Less) r (rs ++ last ∷ []) (nat_list_cmp_total.trans r.name last.name name (below rs a.0) h) (names_by_last rs last name a.1 h)
+  where
+    below : (rs : List Repo) → names.IsBelow repo_cmp r (rs ++ last ∷ []) → name_cmp r last.name ≡ Less
+    below [] b = b.0
+    below (s ∷ rs) b = below rs b.1
+
+last_named : (front : List Repo) (last : Repo) (name : List ℕ) → NamesBefore (front ++ last ∷ []) name → name_cmp last name ≡ Less
+last_named [] last name h = h 0 last (omega arith)
+last_named (r ∷ rs) last name h = last_named rs last name (all_tail (λ repo. name_cmp repo name ≡ Less) r (rs ++ last ∷ []) h)
+
+pub follows_last : (lt : Bool) (o : Ordering) (done front : List Repo) (last : Repo) (name : List ℕ) → names.IsAscending repo_cmp done → done ≡ front ++ last ∷ [] → lt ≡ is_lt o → o ≡ name_cmp last name → IsTrue lt ↔ NamesBefore done name
+follows_last lt o done front last name a e h k = (
+  λ t. subst (λ (l : List Repo). NamesBefore l name) (sym e) (names_by_last front last name (subst (names.IsAscending repo_cmp) e a) (less (name_cmp last name) (ap is_lt (sym k) ∙ sym h ∙ t))),
+  λ l. h ∙ ap is_lt (k ∙ last_named front last name (subst (λ (l : List Repo). NamesBefore l name) e l)),
+)
+  where
+    less : (o : Ordering) → is_lt o ≡ true → o ≡ Less
+    less Less h = refl
+    less Equal h = cc
+    less Greater h = cc
+
+-- ---- what a result says
+pub if_ok : {X E : Type 0} (P Q : X → Type 0) → ((x : X) → P x → Q x) → (r : Result X E) → IfOk r P → IfOk r Q
+if_ok P Q f (Ok x) h = f x h
+if_ok P Q f (Err e) h = tt
+
+pub if_before : (P Q : ℕ → Type 0) → ((n : ℕ) → P n → Q n) → (s : Stop) → IfBefore s P → IfBefore s Q
+if_before P Q f (Before n) h = f n h
+if_before P Q f OutOfMemory h = tt
+
+pub if_stop : {X : Type 0} (P Q : ℕ → Type 0) → ((n : ℕ) → P n → Q n) → (r : Result X Stop) → IfErr r (λ s. IfBefore s P) → IfErr r (λ s. IfBefore s Q)
+if_stop P Q f (Ok x) h = tt
+if_stop P Q f (Err e) h = if_before P Q f e h
+
+-- ---- the known packages
+pub known_first : (text : List ℕ) → ((behind : List ℕ) → IsLine text (codes "aptly root 0") behind → ⊥) → Stops KnownPart text (length text)
+unfolding KnownPart
+known_first text none = fixed_in (codes "aptly root 0") refl KnownSeries _ _ counted_known text none
+
+pub known_count : (text rest : List ℕ) (most : ℕ) → IsLine text (codes "aptly root 0") rest → most ≡ limit_number Known → NoLine known_line (λ n. n ≤ most) rest → Stops KnownPart text (length rest)
+unfolding KnownPart
+known_count text rest most l e none =
+    fixed_up (codes "aptly root 0") refl KnownSeries _ _ counted_known text rest (length rest) l
+    (counted_in (codes "known ") (limit_number Known) known_other (omega arith) NextPackage package_pieces (AllLess package_cmp) package_part rest most e none)
+
+pub known_rest : (text rest mid : List ℕ) (n most left : ℕ) → IsLine text (codes "aptly root 0") rest → most ≡ limit_number Known → n ≤ most → IsLine rest (known_line n) mid → Stops (Series n NextPackage []) mid left → Stops KnownPart text left
+unfolding KnownPart
+known_rest text rest mid n most left l e few m s =
+    fixed_up (codes "aptly root 0") refl KnownSeries _ _ counted_known text rest left l
+    (counted_up (codes "known ") (limit_number Known) known_other (omega arith) NextPackage package_pieces (AllLess package_cmp) package_part rest mid n left (omega arith) m s)
+
+pub known_read : (text rest mid : List ℕ) (n most : ℕ) → IsLine text (codes "aptly root 0") rest → most ≡ limit_number Known → n ≤ most → IsLine rest (known_line n) mid → (xs : List Card) (behind : List ℕ) → ReadsSeries package_pieces (AllLess package_cmp) n mid xs behind → ReadsPart known_pieces GoodKnown text xs behind
+unfolding known_pieces
+known_read text rest mid n most l e few m xs behind r = record {
+  good = (let c = r.counted in omega arith, r.good);
+  takes = (rest, l, (mid, subst (λ (k : ℕ). IsLine rest (known_line k) mid) (sym r.counted) m, subst (λ (ys : List Piece). Takes mid ys behind) (flat_map_single packed xs) r.takes));
+}
+
+-- ---- a list
+module _ (known : List Card) where
+  pub set_count : (text : List ℕ) (most : ℕ) → most ≡ limit_number Packages → NoLine set_line (λ n. n ≤ most) text → Stops (SetPart known) text (length text)
+  set_count text most e none = counted_in (codes "set ") (limit_number Packages) set_other (omega arith) (NextMember known) member_pieces (MayJoin known) (member_part known) text most e none
+
+  pub set_rest : (text mid : List ℕ) (n most left : ℕ) → most ≡ limit_number Packages → n ≤ most → IsLine text (set_line n) mid → Stops (Series n (NextMember known) []) mid left → Stops (SetPart known) text left
+  set_rest text mid n most left e few m s = counted_up (codes "set ") (limit_number Packages) set_other (omega arith) (NextMember known) member_pieces (MayJoin known) (member_part known) text mid n left (omega arith) m s
+
+  pub set_read : (text mid : List ℕ) (n most : ℕ) → most ≡ limit_number Packages → n ≤ most → IsLine text (set_line n) mid → (xs : List Card) (behind : List ℕ) → ReadsSeries member_pieces (MayJoin known) n mid xs behind → ReadsPart set_pieces (GoodSet known) text xs behind
+  unfolding set_pieces
+  set_read text mid n most e few m xs behind r = record {
+    good = (let c = r.counted in omega arith, r.good);
+    takes = (mid, subst (λ (k : ℕ). IsLine text (set_line k) mid) (sym r.counted) m, subst (λ (ys : List Piece). Takes mid ys behind) (flat_map_single (λ p. alone (id_of p)) xs) r.takes);
+  }
+
+  -- ---- the repositories
+  pub repos_first : (text : List ℕ) → ((behind : List ℕ) → IsLine text (codes "mirrors 0") behind → ⊥) → Stops (ReposPart known) text (length text)
+  unfolding ReposPart
+  repos_first text none = fixed_in (codes "mirrors 0") refl (ReposSeries known) _ _ (counted_repos known) text none
+
+  pub repos_count : (text rest : List ℕ) (most : ℕ) → IsLine text (codes "mirrors 0") rest → most ≡ limit_number Repos → NoLine repos_line (λ n. n ≤ most) rest → Stops (ReposPart known) text (length rest)
+  unfolding ReposPart
+  repos_count text rest most l e none =
+      fixed_up (codes "mirrors 0") refl (ReposSeries known) _ _ (counted_repos known) text rest (length rest) l
+      (counted_in (codes "repos ") (limit_number Repos) repos_other (omega arith) (NextRepo known) repo_pieces (GoodRepo known) (repo_part known) rest most e none)
+
+  pub repos_rest : (text rest mid : List ℕ) (n most left : ℕ) → IsLine text (codes "mirrors 0") rest → most ≡ limit_number Repos → n ≤ most → IsLine rest (repos_line n) mid → Stops (Series n (NextRepo known) []) mid left → Stops (ReposPart known) text left
+  unfolding ReposPart
+  repos_rest text rest mid n most left l e few m s =
+      fixed_up (codes "mirrors 0") refl (ReposSeries known) _ _ (counted_repos known) text rest left l
+      (counted_up (codes "repos ") (limit_number Repos) repos_other (omega arith) (NextRepo known) repo_pieces (GoodRepo known) (repo_part known) rest mid n left (omega arith) m s)
+
+  pub repos_read : (text rest mid : List ℕ) (n most : ℕ) → IsLine text (codes "mirrors 0") rest → most ≡ limit_number Repos → n ≤ most → IsLine rest (repos_line n) mid → (xs : List Repo) (behind : List ℕ) → ReadsSeries repo_pieces (GoodRepo known) n mid xs behind → ReadsPart repos_pieces (GoodRepos known) text xs behind
+  unfolding repos_pieces
+  repos_read text rest mid n most l e few m xs behind r = record {
+    good = (let c = r.counted in omega arith, r.good);
+    takes = (rest, l, (mid, subst (λ (k : ℕ). IsLine rest (repos_line k) mid) (sym r.counted) m, r.takes));
+  }
+
+  -- ---- the end
+  pub last_first : (text : List ℕ) → ((behind : List ℕ) → IsLine text (codes "snapshots 0") behind → ⊥) → Stops (LastPart known) text (length text)
+  unfolding LastPart
+  last_first text none = fixed_in (codes "snapshots 0") refl (FromPublications known) _ _ (publications_part known) text none
+
+  pub last_second : (text rest : List ℕ) → IsLine text (codes "snapshots 0") rest → ((behind : List ℕ) → IsLine rest (codes "publications 0") behind → ⊥) → Stops (LastPart known) text (length rest)
+  unfolding LastPart
+  last_second text rest l none =
+      fixed_up (codes "snapshots 0") refl (FromPublications known) _ _ (publications_part known) text rest (length rest) l
+      (fixed_in (codes "publications 0") refl (EndLine known) _ _ (end_part known) rest none)
+
+  pub last_third : (text rest mid : List ℕ) → IsLine text (codes "snapshots 0") rest → IsLine rest (codes "publications 0") mid → ((behind : List ℕ) → IsWithinLimits known → IsLine mid (codes "end") behind → ⊥) → Stops (LastPart known) text (length mid)
+  unfolding LastPart
+  last_third text rest mid l m none =
+      fixed_up (codes "snapshots 0") refl (FromPublications known) _ _ (publications_part known) text rest (length mid) l
+      (fixed_up (codes "publications 0") refl (EndLine known) _ _ (end_part known) rest mid (length mid) m
+      (stops_line {A = Unit {0}} (λ u. codes "end") (λ u. IsWithinLimits known) mid (λ u behind g k. none behind g k)))
+
+  pub last_read : (text rest mid behind : List ℕ) → IsLine text (codes "snapshots 0") rest → IsLine rest (codes "publications 0") mid → IsLine mid (codes "end") behind → IsWithinLimits known → ReadsPart {A = Unit {0}} (λ u. last_pieces) (λ u. IsWithinLimits known) text tt behind
+  unfolding last_pieces
+  last_read text rest mid behind l m n g = record { good = g; takes = (rest, l, (mid, m, (behind, n, refl))) }
+
+-- ---- a repository
+module _ (known : List Card) (before : List Repo) where
+  pub at_name : (text : List ℕ) (left : ℕ) → Stops (Line name_line (IsNext before)) text left → Stops (NextRepo known before) text left
+  unfolding NextRepo
+  at_name text left s = stops_first (Line name_line (IsNext before)) (FromComment known before) (line_of name_line) (comment_of known before) (IsNext before) (GoodFromComment known before) (λ repo. repo.name) (name_part known before) (from_comment known before) text left s
+
+  pub past_name : (text rest : List ℕ) (left : ℕ) (n : List ℕ) → IsNext before n → IsLine text (name_line n) rest → Stops (FromComment known before n) rest left → Stops (NextRepo known before) text left
+  unfolding NextRepo
+  past_name text rest left n g l s = stops_then (Line name_line (IsNext before)) (FromComment known before) (line_of name_line) (comment_of known before) (IsNext before) (GoodFromComment known before) (λ repo. repo.name) (name_part known before) (from_comment known before) (name_told known before) text rest left n g (rest, l, refl) s
+
+  pub at_comment : (n text : List ℕ) (left : ℕ) → Stops (Line comment_line IsLineText) text left → Stops (FromComment known before n) text left
+  at_comment n text left s = stops_first (Line comment_line IsLineText) (FromDistribution known before n) (line_of comment_line) (distribution_of known before) IsLineText (GoodFromDistribution known before n) (λ repo. repo.comment) (comment_part known before) (from_distribution known before n) text left s
+
+  pub past_comment : (n text rest : List ℕ) (left : ℕ) (c : List ℕ) → IsLineText c → IsLine text (comment_line c) rest → Stops (FromDistribution known before n c) rest left → Stops (FromComment known before n) text left
+  past_comment n text rest left c g l s = stops_then (Line comment_line IsLineText) (FromDistribution known before n) (line_of comment_line) (distribution_of known before) IsLineText (GoodFromDistribution known before n) (λ repo. repo.comment) (comment_part known before) (from_distribution known before n) (comment_told known before) text rest left c g (rest, l, refl) s
+
+  pub at_distribution : (n c text : List ℕ) (left : ℕ) → Stops (Line distribution_line IsDistribution) text left → Stops (FromDistribution known before n c) text left
+  at_distribution n c text left s = stops_first (Line distribution_line IsDistribution) (FromComponent known before n c) (line_of distribution_line) (component_of known before) IsDistribution (GoodFromComponent known before n c) (λ repo. repo.distribution) (distribution_part known before) (from_component known before n c) text left s
+
+  pub past_distribution : (n c text rest : List ℕ) (left : ℕ) (d : Option (List ℕ)) → IsDistribution d → IsLine text (distribution_line d) rest → Stops (FromComponent known before n c d) rest left → Stops (FromDistribution known before n c) text left
+  past_distribution n c text rest left d g l s = stops_then (Line distribution_line IsDistribution) (FromComponent known before n c) (line_of distribution_line) (component_of known before) IsDistribution (GoodFromComponent known before n c) (λ repo. repo.distribution) (distribution_part known before) (from_component known before n c) (distribution_told known before) text rest left d g (rest, l, refl) s
+
+  pub at_component : (n c : List ℕ) (d : Option (List ℕ)) (text : List ℕ) (left : ℕ) → Stops (Line component_line IsComponent) text left → Stops (FromComponent known before n c d) text left
+  at_component n c d text left s = stops_first (Line component_line IsComponent) (FromSet known before n c d) (line_of component_line) (set_of known before) IsComponent (GoodFromSet known before n c d) (λ repo. repo.component) (component_part known before) (from_set known before n c d) text left s
+
+  pub past_component : (n c : List ℕ) (d : Option (List ℕ)) (text rest : List ℕ) (left : ℕ) (k : List ℕ) → IsComponent k → IsLine text (component_line k) rest → Stops (FromSet known before n c d k) rest left → Stops (FromComponent known before n c d) text left
+  past_component n c d text rest left k g l s = stops_then (Line component_line IsComponent) (FromSet known before n c d) (line_of component_line) (set_of known before) IsComponent (GoodFromSet known before n c d) (λ repo. repo.component) (component_part known before) (from_set known before n c d) (component_told known before) text rest left k g (rest, l, refl) s
+
+  pub at_set : (n c : List ℕ) (d : Option (List ℕ)) (k text : List ℕ) (left : ℕ) → Stops (SetPart known) text left → Stops (FromSet known before n c d k) text left
+  at_set n c d k text left s = stops_as (SetPart known) set_pieces (GoodSet known) (made n c d k) (λ repo. repo.list) (set_part known) text left s
+
+  pub repo_read : (text r1 r2 r3 r4 rest n c : List ℕ) (d : Option (List ℕ)) (k : List ℕ) (list : List Card) → ReadsLine name_line (IsNext before) text n r1 → ReadsLine comment_line IsLineText r1 c r2 → ReadsLine distribution_line IsDistribution r2 d r3 → ReadsLine component_line IsComponent r3 k r4 → ReadsPart set_pieces (GoodSet known) r4 list rest
+      → ReadsPart repo_pieces (GoodRepo known before) text (made n c d k list) rest
+  unfolding repo_pieces
+  repo_read text r1 r2 r3 r4 rest n c d k list a b e f s = record {
+    good = record { name = a.0; comment = b.0; distribution = e.0; component = f.0; list = s.good };
+    takes = (r1, a.1, (r2, b.1, (r3, e.1, (r4, f.1, s.takes))));
+  }
+
+  pub not_next : (text rest name : List ℕ) (follows : Bool) → follows ≡ false → (IsTrue follows ↔ NamesBefore before name) → IsLine text (name_line name) rest → NoLine name_line (IsNext before) text
+  not_next text rest name follows f h l a behind g m =
+      let same : name ≡ a = append_cancel_left (codes "repo ") name a (line_unique text (name_line name) (name_line a) rest behind l m).0 in
+      true≢false (sym (h.1 (subst (NamesBefore before) (sym same) g.1)) ∙ f)

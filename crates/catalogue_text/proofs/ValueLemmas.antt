@@ -1,0 +1,87 @@
+-- Lines that give one value each.
+use Rattle.std.proofs.Common.{rules, ◌≡◌, ℕ, zero, suc, ◌<◌, ◌^◌, true, false, not, codes, ◌∙◌, List, [], ◌∷◌, ◌++◌, get_or, Option, Some, None, Result, Ok, Err, IsTrue, IsFalse, refl, sym, ap, subst, arith}
+use Rattle.std.specs.List.{list_all}
+use Rattle.std.specs.Str.{IsUtf8, bytes_eq}
+use Rattle.std.proofs.lemmas.Slice.Eq.{bytes_eq-Decides}
+use Rattle.std.specs.Str.Parse.{ParsesUnsigned}
+use Rattle.std.specs.Fmt.{decimal}
+use Rattle.std.specs.Option.{MatchOption}
+use Rattle.std.proofs.lemmas.Bool.{and_parts, false_from_ne_true, true≢false}
+use Rattle.std.proofs.lemmas.Bool.Decides.{nat_tests}
+use Rattle.std.proofs.lemmas.Fmt.{parse-decimal, IsAscii-decimal}
+use Rattle.std.proofs.lemmas.List.{append_cancel_left}
+use Rattle.std.proofs.lemmas.Str.{IsUtf8-from_ascii}
+use Rattle.ap_text.specs.Names.{is_name, is_name_byte}
+use Rattle.catalogue_text.specs.Lines.{IsLine}
+use Rattle.catalogue_text.specs.Reading.{NoLine}
+use Rattle.catalogue_text.specs.Grammar.{IsName}
+use Rattle.catalogue_text.proofs.LineLemmas.{line_unique}
+use Rattle.machine_state.specs.State.{is_component}
+
+name_byte_small : (b : ℕ) → is_name_byte b ≡ true → b < 128
+name_byte_small b e = grind (arith, nat_tests)
+
+name_bytes_ascii : (bs : List ℕ) → list_all is_name_byte bs ≡ true → (i : ℕ) → get_or bs i 0 < 128
+name_bytes_ascii [] e zero = omega arith
+name_bytes_ascii [] e (suc i) = omega arith
+name_bytes_ascii (b ∷ bs) e zero = name_byte_small b (and_parts (is_name_byte b) (list_all is_name_byte bs) e).0
+name_bytes_ascii (b ∷ bs) e (suc i) = name_bytes_ascii bs (and_parts (is_name_byte b) (list_all is_name_byte bs) e).1 i
+
+pub name_utf8 : (bs : List ℕ) → is_name bs ≡ true → IsUtf8 bs
+name_utf8 bs e = IsUtf8-from_ascii bs (name_bytes_ascii bs (and_parts _ (list_all is_name_byte bs) e).1)
+
+-- what isn't UTF-8 is no name
+pub no_name : (bs : List ℕ) → (IsUtf8 bs → ⊥) → is_name bs ≡ false
+no_name bs h = false_from_ne_true (is_name bs) (λ e. h (name_utf8 bs e))
+
+pub component_name : (name : List ℕ) → is_component name ≡ true → is_name name ≡ true
+component_name name e = (and_parts (is_name name) _ e).0
+
+pub not_name : (found : Option (List ℕ)) (written a : List ℕ) → MatchOption found (IsFalse (is_name written)) (λ n. (n ≡ written) × IsTrue (is_name n)) → found ≡ None → IsName a → written ≡ a → ⊥
+not_name None written a h e g same = let t : is_name written ≡ is_name a = ap is_name same in cc
+not_name (Some n) written a h e g same = cc
+
+-- the line has the key, and behind it no good value
+pub no_value : {A : Type 0} (f : A → List ℕ) (Good : A → Type 0) (text key written rest : List ℕ) → IsLine text (key ++ written) rest → ((a : A) → Good a → written ≡ f a → ⊥) → NoLine (λ a. key ++ f a) Good text
+no_value f Good text key written rest l h a behind g m =
+    h a g (append_cancel_left key written (f a) (line_unique text (key ++ written) (key ++ f a) rest behind l m).0)
+
+pub no_key : {A : Type 0} (f : A → List ℕ) (Good : A → Type 0) (text key : List ℕ) → ((written behind : List ℕ) → IsLine text (key ++ written) behind → ⊥) → NoLine (λ a. key ++ f a) Good text
+no_key f Good text key h a behind g m = h (f a) behind m
+
+-- what doesn't parse is no number's digits
+pub no_number : {E : Type 0} (digits : List ℕ) (r : Result ℕ E) (e : E) → ParsesUnsigned 64 10 digits r → r ≡ Err e → (n : ℕ) → n < 2 ^ 64 → digits ≡ decimal n → ⊥
+no_number digits r e p is n small f = let t = parse-decimal 64 n digits r small small f p in cc
+
+pub same_number : {E : Type 0} (digits : List ℕ) (r : Result ℕ E) (m : ℕ) → ParsesUnsigned 64 10 digits r → r ≡ Ok m → (n : ℕ) → n < 2 ^ 64 → digits ≡ decimal n → n ≡ m
+same_number digits r m p is n small f = let t = parse-decimal 64 n digits r small small f p in cc
+
+pub number_utf8 : (written : List ℕ) → (IsUtf8 written → ⊥) → (n : ℕ) → n < 2 ^ 64 → written ≡ decimal n → ⊥
+number_utf8 written h n small e = h (subst IsUtf8 (sym e) (IsUtf8-from_ascii (decimal n) (IsAscii-decimal n small)))
+
+pub apart : (a b : List ℕ) → false ≡ bytes_eq a b → a ≡ b → ⊥
+apart a b e f = let t : bytes_eq b b ≡ true = itself b in cc
+  where
+    itself : (x : List ℕ) → bytes_eq x x ≡ true
+    itself x = search (rules, bytes_eq-Decides)
+
+-- what an option says
+pub at_none : {B : Type 0} (found : Option B) (P : Type 0) (Q : B → Type 0) → MatchOption found P Q → found ≡ None → P
+at_none None P Q h e = h
+at_none (Some x) P Q h e = cc
+
+pub at_some : {B : Type 0} (found : Option B) (P : Type 0) (Q : B → Type 0) (x : B) → MatchOption found P Q → found ≡ Some x → Q x
+at_some None P Q x h e = cc
+at_some (Some y) P Q x h e = let same : y ≡ x = cc in subst Q same h
+
+-- what a pattern didn't fit holds nothing
+pub at_default : {B : Type 0} (found : Option B) (P : Type 0) (Q : B → Type 0) → MatchOption found P Q → ((x : B) → found ≡ Some x → ⊥) → P
+at_default None P Q h n = h
+at_default (Some x) P Q h n = absurd (n x refl)
+
+pub not_release : (a name : List ℕ) → is_component a ≡ true → name ≡ a → true ≡ bytes_eq name (codes "Release") → ⊥
+not_release a name g e h =
+    let p = (and_parts (is_name a) (not (bytes_eq a (codes "Release"))) g).1 in
+    let t : bytes_eq a (codes "Release") ≡ true = ap (λ x. bytes_eq x (codes "Release")) (sym e) ∙ sym h in
+    let f : not (bytes_eq a (codes "Release")) ≡ false = ap not t in
+    true≢false (sym p ∙ f)

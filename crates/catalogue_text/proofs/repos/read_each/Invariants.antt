@@ -1,0 +1,15 @@
+use Rattle.std.proofs.Common.{◌≡◌, [], length}
+use Rattle.std.specs.List.{flat_map}
+use Rattle.machine_state.specs.Ascending.{IsAscending}
+use Rattle.machine_state.specs.State.{repo_cmp}
+use Rattle.catalogue_text.specs.Pieces.{Takes}
+use Rattle.catalogue_text.specs.Root.{repo_pieces}
+use Rattle.catalogue_text.specs.Reading.{Each, GoodRepo}
+use Rattle.catalogue_text.proofs.repos.read_each.Given as goal
+
+abbrev pub invariant-loop-read : goal.invariant-loop-read
+invariant-loop-read l = record {
+  counted : length l.repos.items ≡ l._read;
+  good : Each (GoodRepo l.known.list) [] l.repos.items;
+  takes : Takes l.fn.text (flat_map repo_pieces l.repos.items) l.rest;
+}

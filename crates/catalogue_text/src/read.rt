@@ -1,0 +1,79 @@
+//! A root text read back.
+ghost use Rattle.std.specs.Prelude.{◌≡◌, ℕ, [], List, IfOk, IfErr, MatchResult};
+ghost use Rattle.machine_state.specs.State.{Valid};
+ghost use Rattle.catalogue_text.specs.Root.{root_text as root_of, last_pieces};
+ghost use Rattle.catalogue_text.specs.Grammar.{LastPart, IsWithinLimits};
+ghost use Rattle.catalogue_text.specs.Faults.{TextsApart, IsRootFault};
+ghost use Rattle.catalogue_text.specs.Reading.{IfBefore, Stops, StopsRoot, ReadsPart, IsIndexed};
+
+use crate::fault::RootFault;
+use crate::known::{Known, read_known};
+use crate::lines::{after_line, is_ended, line_before};
+use crate::repos::read_repos;
+use crate::stop::Stop;
+use machine_state::State;
+use std::alloc::Global;
+
+/// The text behind the end of a root that has these packages, or how many bytes are left where it stops.
+fn read_last<'a>(text: &'a [u8], known: &Known) -> Result<&'a [u8], usize>
+    requires { IsIndexed known.now }
+    ensures { MatchResult result (λ rest. ReadsPart {A = Unit {0}} (λ u. last_pieces) (λ u. IsWithinLimits known.now.list) text.now tt rest.now) (Stops (LastPart known.now.list) text.now) }
+{
+    let Some(behind) = after_line(text, "snapshots 0") else {
+        return Err(text.len());
+    };
+    let Some(rest) = after_line(behind, "publications 0") else {
+        return Err(behind.len());
+    };
+    let Some(behind) = after_line(rest, "end") else {
+        return Err(rest.len());
+    };
+    if known.is_within_limits() { Ok(behind) } else { Err(rest.len()) }
+}
+
+/// The state whose root text the bytes are, or where they stop being one.
+fn read_state(alloc: Global, bytes: &[u8]) -> Result<State, Stop>
+    ensures found { IfOk result (λ state. Valid state × (bytes.now ≡ root_of state)) }
+    ensures stops { IfErr result (λ stop. IfBefore stop (λ left. TextsApart bytes.now → StopsRoot bytes.now left)) }
+{
+    let (known, rest) = match read_known(alloc, bytes) {
+        Ok(head) => head,
+        Err(stop) => return Err(stop),
+    };
+    let (repos, rest) = match read_repos(alloc, rest, &known) {
+        Ok(body) => body,
+        Err(stop) => return Err(stop),
+    };
+    let rest = match read_last(rest, &known) {
+        Ok(rest) => rest,
+        Err(left) => return Err(Stop::Before(left)),
+    };
+    if !rest.is_empty() || !is_ended(bytes) {
+        return Err(Stop::Before(rest.len()));
+    }
+    Ok(State {
+        known: known.list,
+        repos,
+    })
+}
+
+/// The state whose root text the bytes are, or the first line that can't stand there: it has not the form that the lines
+/// before it ask for, or what it writes breaks, by itself or with the lines before it, what a valid state keeps to.
+///
+/// A package text that is none, or whose package doesn't come after the one before it, is a fault of the line with its
+/// length. The limits on the length of all package texts and on the size of a file are kept at the line `end`.
+pub fn read_root(alloc: Global, bytes: &[u8]) -> Result<State, RootFault>
+    // What is read is written so.
+    ensures found { IfOk result (λ state. Valid state × (bytes.now ≡ root_of state)) }
+    // The root text of a valid state is refused for want of memory alone, and other bytes at their first bad line, where
+    // no two package texts in them have one SHA-256.
+    ensures fault { IfErr result (λ fault. TextsApart bytes.now → IsRootFault bytes.now fault) }
+{
+    match read_state(alloc, bytes) {
+        Ok(state) => Ok(state),
+        Err(Stop::Before(left)) => Err(RootFault::At {
+            line: line_before(bytes, left),
+        }),
+        Err(Stop::OutOfMemory) => Err(RootFault::OutOfMemory),
+    }
+}

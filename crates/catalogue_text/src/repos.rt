@@ -1,0 +1,114 @@
+//! The repositories of a root.
+ghost use Rattle.std.specs.Prelude.{◌≡◌, ℕ, [], List, All, IfOk, IfErr, IsTrue, ◌↔◌};
+ghost use Rattle.std.specs.declared.cmp.Ordering.TheVariants.{Less};
+ghost use Rattle.machine_state.specs.Ascending.{IsAscending};
+ghost use Rattle.machine_state.specs.State.{name_cmp, repo_cmp};
+ghost use Rattle.catalogue_text.specs.Root.{repo_pieces, repos_pieces};
+ghost use Rattle.catalogue_text.specs.Grammar.{Series, NextRepo, ReposPart};
+ghost use Rattle.catalogue_text.specs.Reading.{IfBefore, Stops, ReadsSeries, ReadsPart, Each, GoodRepo, GoodRepos, IsIndexed, IdsApart};
+
+use crate::known::Known;
+use crate::lines::after_line;
+use crate::sets::read_set;
+use crate::stop::Stop;
+use crate::values::{comment_line, component_line, count_line, distribution_line, name_line};
+use ap_text::Name;
+use machine_state::{Limit, Repo};
+use std::alloc::Global;
+
+/// Whether a name comes after those of the repositories before it: after that of the last.
+fn follows(done: &[Repo], name: &Name) -> bool
+    requires { IsAscending repo_cmp done.now }
+    ensures { IsTrue result ↔ All (λ repo. name_cmp repo name.now ≡ Less) done.now }
+{
+    match done.split_last() {
+        None => true,
+        Some((before, _)) => before.name.order(name).is_lt(),
+    }
+}
+
+/// A repository that may stand behind those before it, and the text behind it.
+fn read_repo<'a>(
+    alloc: Global,
+    text: &'a [u8],
+    known: &Known,
+    done: &[Repo],
+) -> Result<(Repo, &'a [u8]), Stop>
+    requires indexed { IsIndexed known.now }
+    requires sorted { IsAscending repo_cmp done.now }
+    ensures read { IfOk result (λ p. ReadsPart repo_pieces (GoodRepo known.now.list done.now) text.now p.0 p.1.now) }
+    ensures stops { IfErr result (λ stop. IfBefore stop (λ left. IdsApart known.now.list → Stops (NextRepo known.now.list done.now) text.now left)) }
+{
+    let Some((name, behind)) = name_line(alloc, text, "repo ")? else {
+        return Err(Stop::Before(text.len()));
+    };
+    if !follows(done, &name) {
+        return Err(Stop::Before(text.len()));
+    }
+    let Some((comment, rest)) = comment_line(alloc, behind)? else {
+        return Err(Stop::Before(behind.len()));
+    };
+    let Some((distribution, behind)) = distribution_line(alloc, rest)? else {
+        return Err(Stop::Before(rest.len()));
+    };
+    let Some((component, rest)) = component_line(alloc, behind)? else {
+        return Err(Stop::Before(behind.len()));
+    };
+    let (list, rest) = match read_set(alloc, rest, known) {
+        Ok(set) => set,
+        Err(stop) => return Err(stop),
+    };
+    let repo = Repo {
+        name,
+        comment,
+        distribution,
+        component,
+        list,
+    };
+    Ok((repo, rest))
+}
+
+/// So many repositories, and the text behind them.
+fn read_each<'a>(
+    alloc: Global,
+    text: &'a [u8],
+    known: &Known,
+    count: u64,
+) -> Result<(Vec<Repo>, &'a [u8]), Stop>
+    requires { IsIndexed known.now }
+    ensures read { IfOk result (λ p. ReadsSeries repo_pieces (GoodRepo known.now.list) count text.now p.0.items p.1.now) }
+    ensures stops { IfErr result (λ stop. IfBefore stop (λ left. IdsApart known.now.list → Stops (Series count (NextRepo known.now.list) []) text.now left)) }
+{
+    let mut repos = Vec::new(alloc);
+    let mut rest = text;
+    for _read in 0..count {
+        match read_repo(alloc, rest, known, &repos) {
+            Err(stop) => return Err(stop),
+            Ok((repo, behind)) => {
+                repos.push(repo)?;
+                rest = behind;
+            }
+        }
+    }
+    Ok((repos, rest))
+}
+
+/// The repositories, and the text behind them.
+pub(crate) fn read_repos<'a>(
+    alloc: Global,
+    text: &'a [u8],
+    known: &Known,
+) -> Result<(Vec<Repo>, &'a [u8]), Stop>
+    requires { IsIndexed known.now }
+    ensures read { IfOk result (λ p. ReadsPart repos_pieces (GoodRepos known.now.list) text.now p.0.items p.1.now) }
+    ensures stops { IfErr result (λ stop. IfBefore stop (λ left. IdsApart known.now.list → Stops (ReposPart known.now.list) text.now left)) }
+{
+    let Some(rest) = after_line(text, "mirrors 0") else {
+        return Err(Stop::Before(text.len()));
+    };
+    let most = Limit::Repos.number();
+    let Some((count, rest)) = count_line(alloc, rest, "repos ", most)? else {
+        return Err(Stop::Before(rest.len()));
+    };
+    read_each(alloc, rest, known, count)
+}

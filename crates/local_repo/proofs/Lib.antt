@@ -1,0 +1,8 @@
+pub mod ListLemmas
+pub mod FitLemmas
+pub mod DigestLemmas
+pub mod TakenLemmas
+pub mod MapLemmas
+pub mod IndexLemmas
+pub mod LogLemmas
+pub mod TextLemmas

@@ -1,0 +1,22 @@
+use Rattle.std.proofs.Common.{◌≡◌, Some, refl, sym, ap, ◌∙◌, IfOk, Result, Ok, Err}
+use Rattle.std.specs.Option.{IfSome, option_map}
+use Rattle.std.specs.Rc.{rc_value}
+use Rattle.ap_host.specs.Disk.{Files}
+use Rattle.package_core.specs.Card.{Card}
+use Rattle.machine_state.specs.declared.arrived.UpdateFault.{UpdateFault}
+use Rattle.ap_host.proofs.ChangeLemmas.{GoesOn-map, GoesOn-none}
+use Rattle.local_repo.specs.Bodies.{HasBody}
+use Rattle.local_repo.specs.Files.{file_of}
+use Rattle.local_repo.proofs.LogLemmas.{nothing_adds, adds_on, reuse_needs, itself_on}
+use Rattle.local_repo.proofs.body.made.Goals as goal
+
+pub returns-in-Some-clause-log : goal.returns-in-Some-clause-log
+returns-in-Some-clause-log g c =
+    let sha = c.args.one.now.said.sha256 in
+    let k : Card = c.as_ref.result.now in
+    let is : file_of c.args.files.now sha ≡ Some k = ap (option_map rc_value) (sym c.in-Some.ensures.value) ∙ ap Some (sym c.as_ref.ensures) in
+    GoesOn-none _ _ _ refl (λ l. nothing_adds _ (λ f. IfSome (file_of c.args.files.now sha) (HasBody f)) c.reused.result _ l (reuse_needs c.reused.result (file_of c.args.files.now sha) k _ is c.reused.ensures.body))
+
+pub returns-in-None-clause-log : goal.returns-in-None-clause-log
+returns-in-None-clause-log g c =
+    GoesOn-map _ _ _ _ c.fetched.ensures.log (λ l a h. adds_on _ _ (λ f. IfSome (file_of c.args.files.now c.args.one.now.said.sha256) (HasBody f)) c.fetched.result c.fetched.result _ _ l a (λ n. tt) h (itself_on c.fetched.result _ (λ q n grown b. b)))

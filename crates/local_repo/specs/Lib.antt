@@ -1,0 +1,5 @@
+pub mod Arrival
+pub mod Fits
+pub mod Bodies
+pub mod Answers
+pub mod Files

@@ -1,0 +1,4 @@
+pub mod Ascending
+pub mod Limits
+pub mod Values
+pub mod State

@@ -1,0 +1,4 @@
+pub mod StepLemmas
+pub mod LawLemmas
+pub mod QueryLemmas
+pub mod JoinLemmas

@@ -1,0 +1,20 @@
+use Rattle.std.proofs.Common.{ap, ◌∙◌, subst, sym}
+use Rattle.command_words.specs.Plain.{repo_create}
+use Rattle.machine_state.specs.Ascending.{IsAscending}
+use Rattle.machine_state.specs.State.{repo_cmp}
+use Rattle.machine_state.specs.Values.{StateView}
+use Rattle.machine_step.specs.Answers.{IsFirst}
+use Rattle.machine_step.specs.Early.{early, flagged, bad_name, taken}
+use Rattle.machine_step.proofs.StepLemmas.{at_exit, second_decides, taken_along}
+use Rattle.machine_step.proofs.early.create_early.Goals as goal
+
+pub returns-in_err-place-clause-fault : goal.returns-in_err-place-clause-fault
+unfolding early
+returns-in_err-place-clause-fault c = λ v.
+    let same = c.deref.ensures.value ∙ ap (λ (s : StateView). s.repos) c.state.view_is in
+    let fault = c.in_err-place.field-0.0 in
+    let text = c.args.text.now in
+    at_exit c.from_residual-in_err-place.result fault _ c.from_residual-in_err-place.ensures.1
+    (second_decides (flagged c.args.comment.now c.args.distribution.now c.args.component.now) _ fault c.in_ok-no_flags.ensures.good
+    (second_decides (bad_name text) (taken c.args.state.now.repos text) fault c.in_ok-name.ensures.good
+    (taken_along _ _ _ _ fault same c.in_ok-name.ensures.same (c.in_err-place.ensures.fault (subst (IsAscending repo_cmp) (sym same) v.sorted)))))

@@ -1,0 +1,10 @@
+use Rattle.machine_step.proofs.StepLemmas.{at_exit, fault_first}
+use Rattle.machine_step.proofs.repos.show.Goals as goal
+
+pub returns-in_err-repo-clause-fault : goal.returns-in_err-repo-clause-fault
+returns-in_err-repo-clause-fault c = λ arrived v.
+    let fault = c.in_err-repo.field-0.0 in
+    at_exit c.from_residual.result fault _ c.from_residual.ensures.1 (fault_first _ c.args.state.now _ arrived fault (c.in_err-repo.ensures.fault c.args.with_packages.now v))
+
+pub returns-clause-ok : goal.returns-clause-ok
+returns-clause-ok c = λ arrived v. let f = c.in_ok-repo.ensures.found in let u = c.unwrap_or.ensures in let r = c.in_ok-reply.ensures in ?

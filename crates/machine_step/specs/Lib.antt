@@ -1,0 +1,4 @@
+pub mod Queries
+pub mod Early
+pub mod Step
+pub mod Answers
