@@ -1,5 +1,5 @@
 //! A root text read back.
-ghost use Rattle.std.specs.Prelude.{◌≡◌, ℕ, [], List, IfOk, IfErr, MatchResult};
+ghost use Rattle.std.specs.Prelude.{◌≡◌, ◌<◌, ◌^◌, ℕ, [], List, length, IfOk, IfErr, MatchResult};
 ghost use Rattle.machine_state.specs.State.{Valid};
 ghost use Rattle.catalogue_text.specs.Root.{root_text as root_of, last_pieces};
 ghost use Rattle.catalogue_text.specs.Grammar.{LastPart, IsWithinLimits};
@@ -34,7 +34,7 @@ fn read_last<'a>(text: &'a [u8], known: &Known) -> Result<&'a [u8], usize>
 /// The state whose root text the bytes are, or where they stop being one.
 fn read_state(alloc: Global, bytes: &[u8]) -> Result<State, Stop>
     ensures found { IfOk result (λ state. Valid state × (bytes.now ≡ root_of state)) }
-    ensures stops { IfErr result (λ stop. IfBefore stop (λ left. TextsApart bytes.now → StopsRoot bytes.now left)) }
+    ensures stops { IfErr result (λ stop. IfBefore stop (λ left. length bytes.now < 2 ^ 64 → TextsApart bytes.now → StopsRoot bytes.now left)) }
 {
     let (known, rest) = match read_known(alloc, bytes) {
         Ok(head) => head,
