@@ -9,3 +9,4 @@ pub mod RootTexts
 pub mod KnownLemmas
 pub mod ReadLemmas
 pub mod StateLemmas
+pub mod WriteLemmas
