@@ -6,8 +6,9 @@ use Rattle.std.specs.List.{flat_map}
 use Rattle.std.proofs.lemmas.List.{map-append, take_all}
 use Rattle.std.proofs.lemmas.List.Concat.{flat_map-append}
 use Rattle.package_core.specs.Card.{Card}
+use Rattle.machine_state.specs.Values.{StateView}
 use Rattle.catalogue_text.specs.Pieces.{Piece, alone, piece_text}
-use Rattle.catalogue_text.specs.Root.{joined, last_pieces}
+use Rattle.catalogue_text.specs.Root.{joined, known_pieces, repos_pieces, last_pieces, root_pieces, root_text}
 
 take_more : (xs : List Card) (i : ℕ) (p : Card) → slice_get xs i ≡ Some p → take (i + 1) xs ≡ take i xs ++ p ∷ []
 take_more [] i p e = cc
@@ -48,3 +49,12 @@ then_two o x y z a b c e f g = then_one x y z b c f g ∙ ap (λ t. t ++ (b ++ c
 
 pub then_four : (o v w x y z a b c d k : List ℕ) → v ≡ o ++ a → w ≡ v ++ b → x ≡ w ++ c → y ≡ x ++ d → z ≡ y ++ k → z ≡ o ++ (a ++ (b ++ (c ++ (d ++ k))))
 then_four o v w x y z a b c d k e f g h i = then_two w x y z c d k g h i ∙ ap (λ t. t ++ (c ++ (d ++ k))) (f ∙ ap (λ t. t ++ b) e ∙ append_assoc o a b) ∙ append_assoc o (a ++ b) (c ++ (d ++ k)) ∙ ap (λ t. o ++ t) (append_assoc a b (c ++ (d ++ k)))
+
+pub root_joined : (state : StateView) → root_text state ≡ joined (known_pieces state.known) ++ (joined (repos_pieces state.repos) ++ joined last_pieces)
+unfolding root_text root_pieces
+root_joined state =
+    flat_map-append piece_text (known_pieces state.known) (repos_pieces state.repos ++ last_pieces)
+    ∙ ap (λ t. joined (known_pieces state.known) ++ t) (flat_map-append piece_text (repos_pieces state.repos) last_pieces)
+
+pub whole_text : (state : StateView) (o x y z : List ℕ) → o ≡ [] → x ≡ o ++ joined (known_pieces state.known) → y ≡ x ++ joined (repos_pieces state.repos) → z ≡ y ++ joined last_pieces → z ≡ root_text state
+whole_text state o x y z n e f g = then_two o x y z _ _ _ e f g ∙ ap (λ t. t ++ (joined (known_pieces state.known) ++ (joined (repos_pieces state.repos) ++ joined last_pieces))) n ∙ sym (root_joined state)
