@@ -58,19 +58,19 @@ impl PackageList {
         }
     }
 
-    /// The list of these packages, which stand in the order of packages, no two of them equal.
-    pub fn from_ascending(items: Vec<Rc<Package>>) -> PackageList
-        requires { IsAscending package_cmp (map rc_value items.items) }
-        ensures { result ≡ map rc_value items.items }
-    {
-        PackageList { items }
-    }
-
     /// The members stand in the order of packages, no two of them equal.
     pub fn members_ascend(&self)
         ensures { IsAscending package_cmp self.now }
     {
         let _ = &self.items;
+    }
+
+    /// The list of these packages, which stand in their order, no two of them equal. They are shared.
+    pub fn from_ascending(packages: Vec<Rc<Package>>) -> PackageList
+        requires { IsAscending package_cmp (map rc_value packages.items) }
+        ensures { result ≡ map rc_value packages.items }
+    {
+        PackageList { items: packages }
     }
 
     /// The packages joined in the order in which they stand; of equal ones the first stays. The first that can't join those
