@@ -7,3 +7,4 @@ pub mod IndexLemmas
 pub mod LogLemmas
 pub mod TextLemmas
 pub mod ArrivalLemmas
+pub mod AddLemmas
