@@ -1,9 +1,8 @@
 // A file is put into the pool.
-ghost use Rattle.std.specs.Prelude.{◌≡◌, ◌∷◌, [], IsFalse, IsErrOf, Some};
+ghost use Rattle.std.specs.Prelude.{◌≡◌, IsErrOf, Some};
 ghost use Rattle.ap_host.specs.Calls.{CauseOf, HasCause};
 ghost use Rattle.ap_host.specs.Changes.{GoesOn};
 ghost use Rattle.sha2.specs.Sha256.{sha256 as sha256_of};
-ghost use Rattle.stage_file.specs.Stage.{is_staged};
 ghost use Rattle.hash_pool.specs.declared.fault.PoolFault.TheVariants.{HostFault, InboxFault};
 ghost use Rattle.hash_pool.specs.Answers.{IsAnswer, IsPut};
 ghost use Rattle.hash_pool.specs.Lodging.{Sets, Lodges};

@@ -1,5 +1,5 @@
 //! Files of a store and of an inbox, read into memory.
-ghost use Rattle.std.specs.Prelude.{◌≡◌, ◌+◌, ◌<◌, ◌≤◌, min, length, IfOk, unwrap_or};
+ghost use Rattle.std.specs.Prelude.{◌≡◌, ◌+◌, ◌<◌, ◌≤◌, min, length, IfOk};
 ghost use Rattle.std.specs.Option.{ForSome};
 ghost use Rattle.ap_host.specs.Disk.{live_of};
 ghost use Rattle.ap_host.specs.Calls.{HasCause, HasInboxCause};

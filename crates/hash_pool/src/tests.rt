@@ -1,3 +1,5 @@
+ghost use Rattle.std.specs.Prelude.{None};
+
 use super::*;
 use ap_host::{Bytes, Inbox, InboxErr, MemHost, MemInbox};
 use ap_text::SafePath;
