@@ -8,6 +8,7 @@ pub mod OnlyGroups
 pub mod Operators
 pub mod Places
 pub mod Readers
+pub mod Said
 pub mod Unique
 pub mod Walks
 pub mod Words

@@ -56,7 +56,7 @@ singles_parts (part ∷ parts) groups (inr g) =
 singles : (text : List ℕ) (groups : List (List Alternative)) → Groups Provides text groups → groups ≡ map single (flat_map (λ (g : List Alternative). g) groups)
 singles text groups is = singles_parts (is.first ∷ is.others) groups is.each
 
-flat_singles : (list : List Alternative) → flat_map (λ (g : List Alternative). g) (map single list) ≡ list
+pub flat_singles : (list : List Alternative) → flat_map (λ (g : List Alternative). g) (map single list) ≡ list
 flat_singles [] = refl
 flat_singles (a ∷ list) = ap (λ (l : List Alternative). a ∷ l) (flat_singles list)
 

@@ -66,7 +66,7 @@ no_front kind inside m (q ∷ ps) more p readable s t u c r e unfit =
     no_front kind (inside_after inside q) m ps more p (behind inside readable) v.0 t u c.2 v.2 (ap (λ x. run kind x ps) (sym next) ∙ w.2) unfit
 
 -- a reading of given pieces
-same_pieces : (inside m n : Bool) (ps qs : List (List ℕ)) (text : List ℕ) → IsCut inside text ps m [] → IsCut inside text qs n [] → ps ≡ qs
+pub same_pieces : (inside m n : Bool) (ps qs : List (List ℕ)) (text : List ℕ) → IsCut inside text ps m [] → IsCut inside text qs n [] → ps ≡ qs
 same_pieces inside m n [] [] text c d = refl
 same_pieces inside m n [] (q ∷ qs) text c d = absurd (omega (arith, ap length c.1, d.0))
 same_pieces inside m n (p ∷ ps) [] text c d = absurd (omega (arith, ap length d.1, c.0))

@@ -3,3 +3,4 @@ pub mod Reading
 pub mod Groups
 pub mod Faults
 pub mod Places
+pub mod Field

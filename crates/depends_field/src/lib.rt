@@ -11,7 +11,7 @@ mod state;
 
 pub use alternative::{Alternative, Group};
 pub use fault::DependsFault;
-pub use laws::fields_have_one_reading;
+pub use laws::{fields_have_one_reading, fields_say_their_groups};
 pub use read::{read_depends, read_provides};
 
 #[cfg(test)]

@@ -1,7 +1,8 @@
-ghost use Rattle.std.specs.Prelude.{◌≡◌, List, IfOk, IfErr, MatchResult};
+ghost use Rattle.std.specs.Prelude.{◌≡◌, List, IfOk, IfErr, MatchResult, Some};
 ghost use Rattle.std.specs.List.{flat_map};
 ghost use Rattle.depends_field.specs.declared.alternative.Alternative.{Alternative};
 ghost use Rattle.depends_field.specs.Faults.{IsReading, IsFaultOf};
+ghost use Rattle.depends_field.specs.Field.{groups_in, depends_in, provides_in, SaysNothing};
 ghost use Rattle.depends_field.specs.Groups.{Groups, DependsText, ProvidesText};
 ghost use Rattle.depends_field.specs.Places.{IsFaultAt};
 
@@ -43,6 +44,8 @@ fn read(alloc: Global, kind: Kind, text: &str) -> Result<Vec<Group>, DependsFaul
     ensures found { IfOk result (λ groups. Groups kind text.now groups.items) }
     ensures only { (groups : List (List Alternative)) → Groups kind text.now groups → MatchResult result (λ read. read.items ≡ groups) (λ fault. fault ≡ DependsFault.OutOfMemory) }
     ensures place { IfErr result (IsFaultAt kind text.now) }
+    ensures value { IfOk result (λ groups. groups_in kind text.now ≡ Some groups.items) }
+    ensures nothing { IfErr result (SaysNothing (groups_in kind text.now)) }
 {
     read_pieces(alloc, kind, text)
 }
@@ -70,6 +73,9 @@ pub fn read_depends(alloc: Global, text: &str) -> Result<Vec<Group>, DependsFaul
     ensures only { (groups : List (List Alternative)) → DependsText text.now groups → MatchResult result (λ read. read.items ≡ groups) (λ fault. fault ≡ DependsFault.OutOfMemory) }
     // A fault is told only of an unreadable text, with the place at which it ceases to be the front of a readable one.
     ensures place { IfErr result (IsFaultAt Kind.Depends text.now) }
+    // The same, as a function of the text.
+    ensures value { IfOk result (λ groups. depends_in text.now ≡ Some groups.items) }
+    ensures nothing { IfErr result (SaysNothing (depends_in text.now)) }
 {
     read(alloc, Kind::Depends, text)
 }
@@ -83,6 +89,9 @@ pub fn read_provides(alloc: Global, text: &str) -> Result<Vec<Alternative>, Depe
     ensures only { (list : List Alternative) → ProvidesText text.now list → MatchResult result (λ read. read.items ≡ list) (λ fault. fault ≡ DependsFault.OutOfMemory) }
     // A fault is told only of an unreadable text, with the place at which it ceases to be the front of a readable one.
     ensures place { IfErr result (IsFaultAt Kind.Provides text.now) }
+    // The same, as a function of the text.
+    ensures value { IfOk result (λ list. provides_in text.now ≡ Some list.items) }
+    ensures nothing { IfErr result (SaysNothing (provides_in text.now)) }
 {
     let groups = read(alloc, Kind::Provides, text)?;
     Ok(flattened(alloc, groups)?)

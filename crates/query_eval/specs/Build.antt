@@ -1,5 +1,6 @@
 -- What building a regular expression promises.
-use Rattle.std.specs.Prelude.{◌≡◌, ◌⊎◌, ℕ, ◌<◌, ◌-◌, ◌^◌, List, None, IfSome, chars}
+use Rattle.std.specs.Prelude.{◌≡◌, ◌⊎◌, ℕ, ◌<◌, ◌+◌, ◌-◌, ◌^◌, min, Bool, ◌&&◌, ◌==◌, nat_lt, List, None, IfSome, chars}
+use Rattle.std.specs.List.{list_any}
 use Rattle.regex.specs.Patterns.{default_config}
 use Rattle.regex.specs.Strings.{regex_source, regex_config, IsReadFromSource}
 use Rattle.regex.specs.declared.string.regex.Regex.{Regex}
@@ -17,3 +18,11 @@ IsNoPattern text = (read default_config (chars text) ≡ None)
 -- a count rose, or stands at its last value
 abbrev pub Rose : ℕ → ℕ → Type 0
 Rose old new = (old < new) ⊎ (new ≡ 2 ^ 64 - 1)
+
+-- one more, as long as 64 bits hold it
+abbrev pub one_more : ℕ → ℕ
+one_more n = min (n + 1) (2 ^ 64 - 1)
+
+-- The call of this ordinal is listed. None is to fail once the ordinals have come to their end.
+unfoldable pub is_due : List ℕ → ℕ → Bool
+is_due failing call = nat_lt call (2 ^ 64 - 1) && list_any (λ k. k == call) failing

@@ -75,7 +75,7 @@ fn covers_some_end(pattern: &str, text: &str) -> bool
     }
 }
 
-fn covers_whole(pattern: &str, text: &str) -> bool
+pub(crate) fn covers_whole(pattern: &str, text: &str) -> bool
     ensures { result ≡ covers (elements_of (chars pattern.now)) (chars text.now) }
 {
     match front_of(pattern, text) {

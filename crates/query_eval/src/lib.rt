@@ -1,13 +1,26 @@
-//! Shell patterns, and regular expressions with who builds them.
+//! The truth of queries on packages: shell patterns, regular expressions, relations and fields.
 #![tactic(auto)]
 
 mod class;
 mod element;
+mod expression;
+mod fault;
+mod field;
 mod glob;
+mod laws;
 mod letter;
+mod node;
 mod patterns;
+mod prepare;
+mod prepared;
 #[cfg(test)]
 mod tests;
+mod truth;
+mod wanted;
 
+pub use fault::EvalFault;
 pub use glob::glob_matches;
+pub use laws::{globs_cut_values, packages_provide_what_they_say};
 pub use patterns::{MemPatterns, PatternErr, Patterns, RegexPatterns};
+pub use prepared::Prepared;
+pub use wanted::satisfies;

@@ -1,7 +1,7 @@
 //! Who builds regular expressions.
 
-ghost use Rattle.std.specs.Prelude.{◌≡◌, ◌⊎◌, ◌≤◌, ℕ, List, IfOk, OnOk, Option, Some, None, string_bytes, option_map};
-ghost use Rattle.query_eval.specs.Build.{IsReadFrom, IsNoPattern, Rose};
+ghost use Rattle.std.specs.Prelude.{◌≡◌, ◌⊎◌, ◌≤◌, ℕ, List, IfOk, Option, Some, None, string_bytes, option_map, IsTrue};
+ghost use Rattle.query_eval.specs.Build.{IsReadFrom, IsNoPattern, Rose, one_more, is_due};
 
 use regex::Regex;
 use std::alloc::Global;
@@ -116,8 +116,12 @@ impl MemPatterns {
     }
 
     /// Whether the next call fails. The ordinal stays at its type's end, where no call fails.
+    #[tactic(auto, unfolding(crate::specs::Build::is_due))]
     fn fails_next(&mut self) -> bool
         ensures patterns { self.new.patterns ≡ self.old.patterns }
+        ensures due { result ≡ is_due self.old.failing.items self.old.calls }
+        ensures calls { self.new.calls ≡ one_more self.old.calls }
+        ensures failing { self.new.failing ≡ self.old.failing }
     {
         if self.calls == u64::MAX {
             return false;
@@ -135,7 +139,18 @@ impl Patterns for MemPatterns {
 
     ghost refused = { λ p. option_map string_bytes p.patterns.refused };
 
-    fn build(&mut self, text: &str) -> Result<Regex, PatternErr> {
+    fn build(&mut self, text: &str) -> Result<Regex, PatternErr>
+        ensures read { IfOk result (IsReadFrom text.now) }
+        ensures syntax { result ≡ Err PatternErr.Syntax → IsNoPattern text.now }
+        ensures size { result ≡ Err PatternErr.Size → Rose self.old.patterns.refusals self.new.patterns.refusals }
+        ensures named { result ≡ Err PatternErr.Size → option_map string_bytes self.new.patterns.refused ≡ Some text.now }
+        ensures never_falls { self.old.patterns.refusals ≤ self.new.patterns.refusals }
+        ensures kept { (result ≡ Err PatternErr.Size) ⊎ (option_map string_bytes self.new.patterns.refused ≡ option_map string_bytes self.old.patterns.refused) }
+        // A call whose turn it is refuses the pattern, unless memory runs out.
+        ensures turn { IsTrue (is_due self.old.failing.items self.old.calls) → (result ≡ Err PatternErr.Size) ⊎ (result ≡ Err PatternErr.OutOfMemory) }
+        ensures calls { self.new.calls ≡ one_more self.old.calls }
+        ensures failing { self.new.failing ≡ self.old.failing }
+    {
         if self.fails_next() {
             return Err(self.patterns.refuse(text));
         }
