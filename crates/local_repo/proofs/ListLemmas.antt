@@ -1,5 +1,6 @@
 -- Sorted lists: what holds of each member, and of which members.
-use Rattle.std.proofs.Common.{◌≡◌, ℕ, zero, suc, ◌+◌, ◌<◌, Bool, true, false, cond, ◌||◌, List, [], ◌∷◌, ◌++◌, map, take, drop, add-one, length, get_or, Option, Some, None, refl, sym, ap, ◌∙◌, subst, arith, Ordering, Less, Equal, Greater}
+use Rattle.std.proofs.lemmas.List.{length-map, get_or-map}
+use Rattle.std.proofs.Common.{take_all, take-append-drop, ◌≤◌, ◌≡◌, ℕ, zero, suc, ◌+◌, ◌<◌, Bool, true, false, cond, ◌||◌, List, [], ◌∷◌, ◌++◌, map, take, drop, add-one, length, get_or, Option, Some, None, refl, sym, ap, ◌∙◌, subst, arith, Ordering, Less, Equal, Greater}
 use Rattle.std.specs.Ordering.{is_eq, ordering_reverse}
 use Rattle.std.specs.List.{All, AllByRecursion}
 use Rattle.std.specs.Cmp.{IsTotalOrder}
@@ -124,3 +125,16 @@ next_split f xs i x l at = drop_at_member f xs i x l at
 
 pub next_taken : {A B : Type 0} (f : A → B) (xs : List A) (i : ℕ) (x : A) → i < length xs → x ≡ get_or xs i x → take (i + 1) (map f xs) ≡ take i (map f xs) ++ f x ∷ []
 next_taken f xs i x l at = ap (λ n. take n (map f xs)) (add-one i) ∙ taken_on (map f xs) i (f x) (drop (i + 1) (map f xs)) (drop_at_member f xs i x l at)
+
+-- what holds of all members holds of the one at a place
+pub at_member : {A B : Type 0} (f : A → B) (P : B → Type 0) (xs : List A) (ys : List B) (i : ℕ) (x : A) → map f xs ≡ ys → All P ys → i < length xs → x ≡ get_or xs i x → P (f x)
+at_member {A = A} {B = B} f P xs ys i x e all l at =
+    let here : P (get_or (map f xs) i (f x)) = subst (λ (zs : List B). All P zs) (sym e) all i (f x) (omega (arith, l, length-map xs f)) in
+    subst P (get_or-map f xs i x (f x) l ∙ ap f (sym at)) here
+
+-- the first of as many as there are, or more, are all
+pub all_first : {A B : Type 0} (f : A → B) (xs : List A) (ys : List B) (i : ℕ) → map f xs ≡ ys → length xs ≤ i → take i (map f xs) ≡ ys
+all_first f xs ys i e l = take_all i (map f xs) (omega (arith, l, length-map xs f)) ∙ e
+
+pub split_at : {A B : Type 0} (f : A → B) (xs : List A) (ys : List B) (i : ℕ) (x : A) → map f xs ≡ ys → i < length xs → x ≡ get_or xs i x → take i (map f xs) ++ f x ∷ drop (i + 1) (map f xs) ≡ ys
+split_at f xs ys i x e l at = ap (λ zs. take i (map f xs) ++ zs) (sym (drop_at_member f xs i x l at)) ∙ take-append-drop i (map f xs) ∙ e

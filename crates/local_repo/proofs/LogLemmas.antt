@@ -1,5 +1,6 @@
 -- What taking in one file does to the store.
 use Rattle.std.proofs.Common.{◌≡◌, ◌⊎◌, inl, inr, ℕ, Bool, true, false, cond, List, [], ◌∷◌, ◌++◌, Option, Some, None, IsSome, IsTrue, IsFalse, Result, Ok, Err, refl, sym, ap, ◌∙◌, subst, IfOk, All, OnOk}
+use Rattle.std.specs.Result.{IsErr}
 use Rattle.std.specs.Option.{ForSome, IfSome, option_or, unwrap_or}
 use Rattle.std.specs.List.{AllByRecursion, find}
 use Rattle.std.specs.Str.{bytes_eq}
@@ -26,8 +27,8 @@ use Rattle.hash_pool.proofs.GrowthLemmas.{law_of_growth, grows_none, grows_whole
 use Rattle.machine_state.specs.declared.arrived.UpdateFault.{UpdateFault}
 use Rattle.local_repo.specs.Arrival.{compared, agreed, facts_of, known_of, standing}
 use Rattle.local_repo.specs.Bodies.{HasBody, IsMet, DigestsApart}
-use Rattle.local_repo.specs.Answers.{Gives, Fills, AddsOne}
-use Rattle.local_repo.proofs.ListLemmas.{each_of, found_holds}
+use Rattle.local_repo.specs.Answers.{Gives, Fills, AddsOne, AddsAll}
+use Rattle.local_repo.proofs.ListLemmas.{by_places, each_of, found_holds}
 use Rattle.local_repo.proofs.TakenLemmas.{find_holds}
 
 -- ---- what the pool holds
@@ -175,3 +176,48 @@ known_body known sha256 (Some q) f e all = find_holds (HasBody f) (λ x. bytes_e
 pub itself_on : (out : Result Card UpdateFault) (P : Card → Card → Type 0) → ((q : Card) → P q q) → IfOk out (λ q. (p : Card) × (out ≡ Ok p) × P p q)
 itself_on (Err e) P f = tt
 itself_on (Ok q) P f = (q, refl, f q)
+
+-- ---- one file after the other
+marked_then : (s t u : StageState) (a b : List Op) → IsMarked s t a → IsMarked t u b → IsMarked s u (a ++ b)
+marked_then s t u a b m (inl touched) = inl touched
+marked_then s t u a b (inl touched) (inr (none, same)) = inl (same ∙ touched)
+marked_then s t u a b (inr (none, before)) (inr (nothing, same)) = inr ((λ i. none i ++ nothing i), same ∙ before)
+
+all_last : {X : Type 0} (P : X → Type 0) (xs : List X) (x : X) → AllByRecursion P xs → P x → AllByRecursion P (xs ++ x ∷ [])
+all_last P [] x h p = (p, tt)
+all_last P (y ∷ ys) x h p = (h.0, all_last P ys x h.1 p)
+
+pub all_none : (map : Option Files) (known xs : List Card) (s : StageState) (l : Log) → xs ≡ [] → AddsAll map known (Ok xs) s s l []
+all_none map known xs s l none = subst (λ (ys : List Card). AddsAll map known (Ok ys) s s l []) (sym none) (record { grows = grows_none l; marked = inr (refl, refl); step = stays_none s l; fills = λ f told. fills_none f l; bodies = λ f told named apart all. by_places (HasBody (live_of (extended [] l))) [] tt })
+
+pub all_nothing : (map : Option Files) (known : List Card) (out : Result (List Card) UpdateFault) (s : StageState) (l : Log) → IsErr out → AddsAll map known out s s l []
+all_nothing map known (Ok xs) s l e = absurd (let no : false ≡ true = e in cc)
+all_nothing map known (Err e) s l is = record { grows = grows_none l; marked = inr (refl, refl); step = stays_none s l; fills = λ f told. fills_none f l; bodies = tt }
+
+pub all_fails : (map : Option Files) (known xs : List Card) (out : Result (List Card) UpdateFault) (s t : StageState) (l : Log) (a : List Op) → IsErr out → AddsAll map known (Ok xs) s t l a → AddsAll map known out s t l a
+all_fails map known xs (Ok ys) s t l a e h = absurd (let no : false ≡ true = e in cc)
+all_fails map known xs (Err e) s t l a is h = record { grows = h.grows; marked = h.marked; step = h.step; fills = h.fills; bodies = tt }
+
+module _ (map : Option Files) (known xs : List Card) (one : Result Card UpdateFault) (s t u : StageState) (l : Log) (a b : List Op) (h : AddsAll map known (Ok xs) s t l a) (g : AddsOne map (λ f. All (HasBody f) known) one t u (extended a l) b) where
+  then_step : IsInStep s l → IsInStep u (extended (a ++ b) l)
+  then_step i = subst (λ (m : Log). IsInStep u m) (extended-append a b l) (g.step (h.step i))
+
+  then_fills : ForSome map (λ f. Fills f l (extended (a ++ b) l))
+  then_fills = λ f told. subst (λ (m : Log). Fills f l m) (extended-append a b l) (fills_then f l (extended a l) (extended b (extended a l)) (h.fills f told) (g.fills f told))
+
+  then_body : (q : Card) → one ≡ Ok q → ForSome map (λ f. IsNamed (live_of l) → DigestsApart (live_of l) f → All (HasBody (live_of l)) known → All (HasBody (live_of (extended (a ++ b) l))) (xs ++ q ∷ []))
+  then_body q is = λ f told named apart all.
+      let m : Log = extended a l in
+      let n : Log = extended b m in
+      let known_there = bodies_stay l m known (grows_whole l a h.grows) (each_of (HasBody (live_of l)) known all) in
+      let before = bodies_stay m n xs (grows_whole m b g.grows) (each_of (HasBody (live_of m)) xs (h.bodies f told named apart all)) in
+      let given : ForSome map (λ x. IsNamed (live_of m) → DigestsApart (live_of m) x → All (HasBody (live_of m)) known → HasBody (live_of n) q) = subst (λ (r : Result Card UpdateFault). IfOk r (λ y. ForSome map (λ x. IsNamed (live_of m) → DigestsApart (live_of m) x → All (HasBody (live_of m)) known → HasBody (live_of n) y))) is g.body in
+      let here = given f told (named_after f l m (h.fills f told) named) (apart_after f l m (h.fills f told) apart) (by_places (HasBody (live_of m)) known known_there) in
+      subst (λ (e : Log). All (HasBody (live_of e)) (xs ++ q ∷ [])) (extended-append a b l) (by_places (HasBody (live_of n)) (xs ++ q ∷ []) (all_last (HasBody (live_of n)) xs q before here))
+
+  pub all_more : (q : Card) → one ≡ Ok q → AddsAll map known (Ok (xs ++ q ∷ [])) s u l (a ++ b)
+  all_more q is = record { grows = law_of_growth.then l a b h.grows g.grows; marked = marked_then s t u a b h.marked g.marked; step = then_step; fills = then_fills; bodies = then_body q is }
+
+  pub all_stops : (out : Result (List Card) UpdateFault) → IsErr out → AddsAll map known out s u l (a ++ b)
+  all_stops (Ok ys) e = absurd (let no : false ≡ true = e in cc)
+  all_stops (Err e) is = record { grows = law_of_growth.then l a b h.grows g.grows; marked = marked_then s t u a b h.marked g.marked; step = then_step; fills = then_fills; bodies = tt }

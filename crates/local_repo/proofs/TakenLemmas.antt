@@ -1,5 +1,5 @@
 -- What comes of a package whose file has the stated facts.
-use Rattle.std.proofs.Common.{◌≡◌, ◌⊎◌, inl, inr, ℕ, ◌≤◌, ◌<◌, ◌^◌, Bool, true, false, cond, ◌&&◌, List, [], ◌∷◌, length, Option, Some, None, is_some, unwrap_or, Result, Ok, Err, refl, sym, ap, ◌∙◌, subst, arith, nat_lt, nat_eq, eqb-true, find, Equal, lt-ltb, le-ltb}
+use Rattle.std.proofs.Common.{◌≡◌, ◌⊎◌, inl, inr, ℕ, ◌≤◌, ◌<◌, ◌^◌, Bool, true, false, cond, ◌&&◌, List, [], ◌∷◌, ◌++◌, length, Option, Some, None, is_some, unwrap_or, Result, Ok, Err, refl, sym, ap, ◌∙◌, subst, arith, nat_lt, nat_eq, eqb-true, find, Equal, lt-ltb, le-ltb}
 use Rattle.std.specs.Option.{IfSome, option_or}
 use Rattle.std.specs.Ordering.{ordering_reverse}
 use Rattle.std.specs.List.{All, AllByRecursion}
@@ -29,8 +29,9 @@ use Rattle.local_repo.specs.Arrival.{and_then, facts_of, agreed, compared, of_fi
 use Rattle.machine_state.specs.declared.arrived.UpdateFault.{UpdateFault}
 use Rattle.machine_state.specs.declared.arrived.UpdateFault.TheVariants as faults
 use Rattle.local_repo.specs.Answers.{FaultGives, Tells}
-use Rattle.local_repo.specs.Fits.{IsTaken, IsCompleted, IfWhole}
-use Rattle.local_repo.proofs.ListLemmas.{each_of, equal_is, found_holds, found_itself, found_equal}
+use Rattle.local_repo.specs.Fits.{IsTaken, AreTaken, IsCompleted, IfWhole}
+use Rattle.std.proofs.lemmas.Cmp.{tied_itself}
+use Rattle.local_repo.proofs.ListLemmas.{each_of, equal_is, found_holds, found_itself, found_equal, AreEqual}
 use Rattle.local_repo.proofs.DigestLemmas.{sha1_digest, md5_digest}
 
 -- ---- what doesn't differ
@@ -150,3 +151,58 @@ tells_gives faults.InboxFault refusal wanted t e = tt
 pub completed_taken : (known : List Card) (p made q : Card) → IsCatalogue known → IsPackage p → IsSaid p.said → p.said.size ≤ limit_number File → IsCompleted p made → q ≡ standing known made → IsTaken known p q
 completed_taken known p made q c d s small m e =
     subst (IsTaken known p) (sym (e ∙ ap (standing known) m.is)) (standing_taken known p m.found c d s (record { sha1 = m.sha1; md5 = m.md5 }) m.agrees small)
+
+-- ---- all packages in turn
+and_then_on : {X Y : Type 0} (r : Result X Refusal) (f : X → Result Y Refusal) (y : Y) → and_then r f ≡ Ok y → (x : X) × (r ≡ Ok x) × (f x ≡ Ok y)
+and_then_on (Ok x) f y h = (x, refl, h)
+and_then_on (Err e) f y h = cc
+
+pub went_on : {X Y : Type 0} (r : Result X Refusal) (f : X → Result Y Refusal) (y : Y) → and_then r f ≡ Ok y → (x : X) × (r ≡ Ok x) × (f x ≡ Ok y)
+went_on = and_then_on
+
+pub each_more : (take : Card → Result Card Refusal) (ps qs : List Card) (p q : Card) → each_taken take ps ≡ Ok qs → take p ≡ Ok q → each_taken take (ps ++ p ∷ []) ≡ Ok (qs ++ q ∷ [])
+each_more take [] qs p q h e =
+    let none : [] ≡ qs = cc in
+    ap (λ r. and_then r (λ x. and_then (Ok []) (λ xs. Ok (x ∷ xs)))) e ∙ ap (λ l. Ok (l ++ q ∷ [])) none
+each_more take (x ∷ xs) qs p q h e =
+    let first = and_then_on (take x) (λ y. and_then (each_taken take xs) (λ ys. Ok (y ∷ ys))) qs h in
+    let rest = and_then_on (each_taken take xs) (λ ys. Ok (first.0 ∷ ys)) qs first.2 in
+    let is : first.0 ∷ rest.0 ≡ qs = let same = rest.2 in cc in
+    let more = each_more take xs rest.0 p q rest.1 e in
+    ap (λ r. and_then r (λ y. and_then (each_taken take (xs ++ p ∷ [])) (λ ys. Ok (y ∷ ys)))) first.1
+    ∙ ap (λ r. and_then r (λ ys. Ok (first.0 ∷ ys))) more ∙ ap (λ l. Ok (l ++ q ∷ [])) is
+
+pub each_stops : (take : Card → Result Card Refusal) (ps qs : List Card) (p : Card) (rest : List Card) (r : Refusal) → each_taken take ps ≡ Ok qs → take p ≡ Err r → each_taken take (ps ++ p ∷ rest) ≡ Err r
+each_stops take [] qs p rest r h e = ap (λ w. and_then w (λ x. and_then (each_taken take rest) (λ xs. Ok (x ∷ xs)))) e
+each_stops take (x ∷ xs) qs p rest r h e =
+    let first = and_then_on (take x) (λ y. and_then (each_taken take xs) (λ ys. Ok (y ∷ ys))) qs h in
+    let behind = and_then_on (each_taken take xs) (λ ys. Ok (first.0 ∷ ys)) qs first.2 in
+    let more = each_stops take xs behind.0 p rest r behind.1 e in
+    ap (λ w. and_then w (λ y. and_then (each_taken take (xs ++ p ∷ rest)) (λ ys. Ok (y ∷ ys)))) first.1
+    ∙ ap (λ w. and_then w (λ ys. Ok (first.0 ∷ ys))) more
+
+pub each_fault : (take : Card → Result Card Refusal) (ps qs : List Card) (p : Card) (rest : List Card) (fault : UpdateFault) → each_taken take ps ≡ Ok qs → FaultGives fault (take p) → FaultGives fault (each_taken take (ps ++ p ∷ rest))
+each_fault take ps qs p rest faults.HostFault h e = tt
+each_fault take ps qs p rest faults.InboxFault h e = tt
+each_fault take ps qs p rest faults.OutOfMemory h e = tt
+each_fault take ps qs p rest (faults.Refused r) h e = each_stops take ps qs p rest r h e
+
+pub taken_more : (known ps qs : List Card) (p q : Card) → AreTaken known ps qs → IsTaken known p q → AreTaken known (ps ++ p ∷ []) (qs ++ q ∷ [])
+taken_more known [] [] p q h t = (t, tt)
+taken_more known [] (y ∷ ys) p q h t = absurd h
+taken_more known (x ∷ xs) [] p q h t = absurd h
+taken_more known (x ∷ xs) (y ∷ ys) p q h t = (h.0, taken_more known xs ys p q h.1 t)
+
+pub equal_more : (ps qs : List Card) (p q : Card) → AreEqual package_total ps qs → package_cmp p q ≡ Equal → AreEqual package_total (ps ++ p ∷ []) (qs ++ q ∷ [])
+equal_more [] [] p q h t = (t, tt)
+equal_more [] (y ∷ ys) p q h t = absurd h
+equal_more (x ∷ xs) [] p q h t = absurd h
+equal_more (x ∷ xs) (y ∷ ys) p q h t = (h.0, equal_more xs ys p q h.1 t)
+
+-- the known package that stands is equal
+pub standing_same : (known : List Card) (p : Card) → package_cmp p (standing known p) ≡ Equal
+standing_same known p = by_known (equal_of package_cmp known p) refl
+  where
+    by_known : (o : Option Card) → equal_of package_cmp known p ≡ o → package_cmp p (unwrap_or o p) ≡ Equal
+    by_known None e = tied_itself package_total p
+    by_known (Some q) e = package_total.antisymm p q ∙ ap ordering_reverse (found_equal package_total known p q e)

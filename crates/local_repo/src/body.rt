@@ -4,7 +4,9 @@ ghost use Rattle.std.specs.Option.{ForSome};
 ghost use Rattle.ap_host.specs.Calls.{CauseOf};
 ghost use Rattle.ap_host.specs.Disk.{Files};
 ghost use Rattle.ap_host.specs.Changes.{GoesOn};
+ghost use Rattle.std.specs.declared.cmp.Ordering.TheVariants.{Equal};
 ghost use Rattle.package_core.specs.Card.{IsPackage};
+ghost use Rattle.package_core.specs.Order.{package_cmp};
 ghost use Rattle.package_core.specs.Whole.{IsSaid, IsWhole};
 ghost use Rattle.machine_state.specs.declared.arrived.UpdateFault.TheVariants.{HostFault, InboxFault};
 ghost use Rattle.machine_state.specs.State.{IsCatalogue};
@@ -34,6 +36,7 @@ fn completed(
     found: &Digests,
 ) -> Result<Package, UpdateFault>
     ensures answer { Gives result (compared path.now one.now found.now) }
+    ensures same { IfOk result (λ q. package_cmp one.now q ≡ Equal) }
     ensures fault { IfErr result IsOwnFault }
 {
     let mut made = one.copy(alloc)?;
@@ -55,6 +58,7 @@ fn reused(
 ) -> Result<Package, UpdateFault>
     ensures answer { IsWhole known.now → Gives result (compared path.now one.now (facts known.now)) }
     ensures made { IfOk result (λ q. IsWhole known.now → IsCompleted one.now q) }
+    ensures same { IfOk result (λ q. package_cmp one.now q ≡ Equal) }
     ensures fault { IfErr result IsOwnFault }
     ensures body { IfOk result (λ q. (f : Files) → HasBody f known.now → HasBody f q) }
 {
@@ -73,6 +77,7 @@ fn fetched<H: Host, I: Inbox>(
 ) -> Result<Package, UpdateFault>
     ensures told { ForSome (I.map inbox.old) (λ f. Gives result (of_file path.now one.now (f path.now))) }
     ensures made { IfOk result (IsCompleted one.now) }
+    ensures same { IfOk result (λ q. package_cmp one.now q ≡ Equal) }
     ensures fault { IfErr result IsAnyFault }
     ensures log { GoesOn (H.log host.old) (H.log host.new) (AddsOne (I.map inbox.old) (λ _. Unit {0}) result stage.old stage.new) }
     ensures map { I.map inbox.new ≡ I.map inbox.old }
@@ -98,6 +103,7 @@ fn made<H: Host, I: Inbox>(
 ) -> Result<Package, UpdateFault>
     ensures told { IfWhole (file_of files.now one.now.said.sha256) (ForSome (I.map inbox.old) (λ f. Gives result (of_known_or_file path.now one.now (file_of files.now one.now.said.sha256) (f path.now)))) }
     ensures made { IfOk result (λ q. IfWhole (file_of files.now one.now.said.sha256) (IsCompleted one.now q)) }
+    ensures same { IfOk result (λ q. package_cmp one.now q ≡ Equal) }
     ensures fault { IfErr result IsAnyFault }
     ensures log { GoesOn (H.log host.old) (H.log host.new) (AddsOne (I.map inbox.old) (λ f. IfSome (file_of files.now one.now.said.sha256) (HasBody f)) result stage.old stage.new) }
     ensures map { I.map inbox.new ≡ I.map inbox.old }
@@ -124,6 +130,7 @@ pub(crate) fn take_one<H: Host, I: Inbox>(
     requires files { (q : List ℕ) → file_of files.now q ≡ known_of known.now q }
     ensures told { IsCatalogue known.now → ForSome (I.map inbox.old) (λ f. Gives result (taken f known.now path.now one.now)) }
     ensures taken { IfOk result (λ q. IsCatalogue known.now → IsPackage one.now → IsSaid one.now.said → IsTaken known.now one.now q) }
+    ensures same { IfOk result (λ q. package_cmp one.now q ≡ Equal) }
     ensures fault { IfErr result IsAnyFault }
     ensures log { GoesOn (H.log host.old) (H.log host.new) (AddsOne (I.map inbox.old) (λ f. All (HasBody f) known.now) result stage.old stage.new) }
     ensures map { I.map inbox.new ≡ I.map inbox.old }

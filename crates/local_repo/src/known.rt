@@ -1,6 +1,8 @@
 //! What is known of files, by their SHA-256.
 ghost use Rattle.std.specs.Prelude.{◌≡◌, IfOk, OnOk, List, ℕ, true};
+ghost use Rattle.std.specs.declared.cmp.Ordering.TheVariants.{Equal};
 ghost use Rattle.package_core.specs.Card.{is_complete};
+ghost use Rattle.package_core.specs.Order.{package_cmp};
 ghost use Rattle.local_repo.specs.Arrival.{facts_of as facts, file_in, known_of, standing};
 ghost use Rattle.local_repo.specs.Files.{file_of};
 
@@ -59,7 +61,8 @@ pub(crate) fn stand(
     known: &PackageList,
     made: Package,
 ) -> Result<Package, AllocError>
-    ensures { IfOk result (λ stood. stood ≡ standing known.now made) }
+    ensures value { IfOk result (λ stood. stood ≡ standing known.now made) }
+    ensures same { IfOk result (λ stood. package_cmp made stood ≡ Equal) }
 {
     match known.equal_of(&made) {
         Some(package) => package.copy(alloc),

@@ -8,6 +8,7 @@ use Rattle.ap_host.proofs.ChangeLemmas.{GoesOn-map, GoesOn-none}
 use Rattle.machine_state.specs.declared.limit.Limit.TheVariants.{File}
 use Rattle.machine_state.specs.Limits.{limit_number}
 use Rattle.package_core.specs.Card.{Card}
+use Rattle.package_core.proofs.OrderLaws.{package_total}
 use Rattle.local_repo.specs.Bodies.{HasBody}
 use Rattle.local_repo.proofs.TakenLemmas.{taken_large, taken_fault, taken_ok, where_whole, tells_gives, completed_taken}
 use Rattle.local_repo.proofs.LogLemmas.{nothing_adds, adds_on, known_body, stands_body}
@@ -45,7 +46,7 @@ returns-clause-told g c catalogue f told =
     let small : p.said.size ≤ limit_number File = omega (arith, c.if-one-number.false, c.number.ensures) in
     let is = c.requires.files p.said.sha256 in
     let given = where_whole _ c.args.known.now p.said.sha256 _ catalogue is c.in_ok-made.ensures.told f told in
-    taken_ok f c.args.known.now c.args.path.now p _ c.in_ok-made.made c.in_ok-stand.field-0 is small given c.in_ok-stand.ensures
+    taken_ok f c.args.known.now c.args.path.now p _ c.in_ok-made.made c.in_ok-stand.field-0 is small given c.in_ok-stand.ensures.value
 
 pub returns-clause-taken : goal.returns-clause-taken
 returns-clause-taken g c catalogue described said =
@@ -53,10 +54,13 @@ returns-clause-taken g c catalogue described said =
     let small : p.said.size ≤ limit_number File = omega (arith, c.if-one-number.false, c.number.ensures) in
     let is = c.requires.files p.said.sha256 in
     let given = where_whole _ c.args.known.now p.said.sha256 _ catalogue is c.in_ok-made.ensures.made in
-    completed_taken c.args.known.now p c.in_ok-made.made c.in_ok-stand.field-0 catalogue described said small given c.in_ok-stand.ensures
+    completed_taken c.args.known.now p c.in_ok-made.made c.in_ok-stand.field-0 catalogue described said small given c.in_ok-stand.ensures.value
 
 pub returns-clause-log : goal.returns-clause-log
 returns-clause-log g c =
     let known = c.args.known.now in
     GoesOn-map _ _ _ _ c.made.ensures.log (λ l a h. adds_on _ _ _ (Ok c.in_ok-stand.field-0) c.made.result _ _ l a (known_body known c.args.one.now.said.sha256 _ (live_of l) (c.requires.files c.args.one.now.said.sha256)) h
-    (c.in_ok-made.made, c.in_ok-made.was, λ all grown body. subst (HasBody (live_of (extended a l))) (sym c.in_ok-stand.ensures) (stands_body known c.in_ok-made.made l (extended a l) grown all body)))
+    (c.in_ok-made.made, c.in_ok-made.was, λ all grown body. subst (HasBody (live_of (extended a l))) (sym c.in_ok-stand.ensures.value) (stands_body known c.in_ok-made.made l (extended a l) grown all body)))
+
+pub returns-clause-same : goal.returns-clause-same
+returns-clause-same g c = package_total.congr c.args.one.now c.in_ok-made.made c.in_ok-stand.field-0 c.in_ok-made.ensures.same ∙ c.in_ok-stand.ensures.same
