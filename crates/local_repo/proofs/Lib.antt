@@ -8,3 +8,5 @@ pub mod LogLemmas
 pub mod TextLemmas
 pub mod ArrivalLemmas
 pub mod AddLemmas
+pub mod StanzaLemmas
+pub mod LawLemmas
