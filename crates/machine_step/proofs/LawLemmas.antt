@@ -29,7 +29,7 @@ use Rattle.machine_state.proofs.RepoLemmas.{repo_total}
 use Rattle.reply_text.specs.Words.{line}
 use Rattle.reply_text.specs.Refusals.{refusal_line}
 use Rattle.reply_text.specs.Replies as replies
-use Rattle.local_repo.specs.Arrival.{arrival, list_of}
+use Rattle.local_repo.specs.Arrival.{Arrives, list_of}
 use Rattle.local_repo.specs.Answers.{IsArrival}
 use Rattle.local_repo.specs.Fits.{FitsIn, added}
 use Rattle.machine_step.specs.Queries.{IsPick, query_of, found_by}
@@ -162,18 +162,21 @@ refuses_some large state command = by_early (early state command)
     by_early (Some refusal) = (Some refusal, refl)
 
 -- something may arrive for each command
-arrives : (files : Option Files) (state : StateView) (wanted : Option (List ℕ × List ℕ)) → (arrived : Arrived) × MayArriveFor files state wanted arrived
-arrives files state None = (arrivals.Nothing, refl)
-arrives None state (Some (name, folder)) = (arrivals.Refused (InputAbsent folder), tt)
-arrives (Some f) state (Some (name, folder)) = by_arrival (arrival f state name folder) refl
+abbrev pub Some_arrives : Type 0
+Some_arrives = (files : Files) (state : StateView) (name : List ℕ) (folder : List ℕ) → (arrived : Result (List Card) Refusal) × Arrives files state name folder arrived
+
+arrives : Some_arrives → (files : Option Files) (state : StateView) (wanted : Option (List ℕ × List ℕ)) → (arrived : Arrived) × MayArriveFor files state wanted arrived
+arrives some files state None = (arrivals.Nothing, refl)
+arrives some None state (Some (name, folder)) = (arrivals.Refused (InputAbsent folder), tt)
+arrives some (Some f) state (Some (name, folder)) = let a = some f state name folder in by_arrival a.0 a.1
   where
-    by_arrival : (r : Result (List Card) Refusal) → arrival f state name folder ≡ r → (arrived : Arrived) × IsArrival (Some f) state name folder arrived
+    by_arrival : (r : Result (List Card) Refusal) → Arrives f state name folder r → (arrived : Arrived) × IsArrival (Some f) state name folder arrived
     by_arrival (Ok list) e = (arrivals.List list [], (refl, e))
     by_arrival (Err refusal) e = (arrivals.Refused refusal, e)
 
-pub total_step : (files : Option Files) (large : Option (List ℕ)) (state : StateView) (command : PlainCommand) → (came : Came) × Step files large state command came
-total_step files large state command =
-    let a = arrives files state (folder_read state command) in
+pub total_step : Some_arrives → (files : Option Files) (large : Option (List ℕ)) (state : StateView) (command : PlainCommand) → (came : Came) × Step files large state command came
+total_step some files large state command =
+    let a = arrives some files state (folder_read state command) in
     let r = refuses_some large state command in
     (came_to state command a.0 r.0, (a.0, a.1, (r.0, r.1, refl)))
 
@@ -248,7 +251,7 @@ valid_created state name v e = by_room (nat_le 10000 (length state.repos)) refl
 
 -- the law of arrivals
 abbrev pub Fit : Type 0
-Fit = (files : Files) (state : StateView) (name : List ℕ) (folder : List ℕ) (list : List Card) → Valid state → arrival files state name folder ≡ Ok list → FitsIn state name list
+Fit = (files : Files) (state : StateView) (name : List ℕ) (folder : List ℕ) (list : List Card) → Valid state → Arrives files state name folder (Ok list) → FitsIn state name list
 
 -- a list that arrives fits
 pub list_fits : Fit → (files : Option Files) (state : StateView) (name folder : List ℕ) (list : List Card) (date : List ℕ) → Valid state → IsArrival files state name folder (arrivals.List list date) → FitsIn state name list

@@ -2,3 +2,4 @@ pub mod StepLemmas
 pub mod LawLemmas
 pub mod QueryLemmas
 pub mod JoinLemmas
+pub mod SameLemmas

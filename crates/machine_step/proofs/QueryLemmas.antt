@@ -1,5 +1,5 @@
 -- Queries of commands.
-use Rattle.std.proofs.Common.{◌≡◌, ℕ, ◌<◌, ◌≤◌, List, length, Option, Some, None, Result, Ok, Err, Bool, true, false, subst, refl, sym, ap, ◌∙◌, arith, rules, inl, inr}
+use Rattle.std.proofs.Common.{◌≡◌, ℕ, ◌<◌, ◌≤◌, List, length, Option, Some, None, Result, Ok, Err, Bool, true, false, subst, refl, sym, ap, ◌∙◌, arith, rules, ◌⊎◌, inl, inr}
 use Rattle.std.specs.Bool.{nat_lt, if◌then◌else◌}
 use Rattle.query_grammar.specs.declared.fault.QueryKind.{QueryKind}
 use Rattle.query_grammar.specs.declared.fault.QueryFault.{QueryFault}
@@ -7,8 +7,10 @@ use Rattle.query_grammar.specs.declared.fault.QueryFault.TheVariants.{At}
 use Rattle.query_grammar.specs.Tree.{Tree}
 use Rattle.query_grammar.specs.Grammar.{QueryText}
 use Rattle.query_grammar.specs.Answers.{IsQueryFault}
-use Rattle.query_grammar.specs.Reading.{tree, fault, reading}
-use Rattle.query_grammar.proofs.Agreement.{reading_only}
+use Rattle.query_grammar.specs.Reading.{Reading, tree, fault, reading}
+use Rattle.query_grammar.specs.Places.{IsPlace}
+use Rattle.query_grammar.proofs.Agreement.{reading_found, reading_only}
+use Rattle.query_grammar.proofs.PlaceOf.{reading_place}
 use Rattle.query_eval.specs.declared.fault.EvalFault.TheVariants.{PatternTooLarge}
 use Rattle.query_eval.specs.Conditions.{patterns_of, IsRefused}
 use Rattle.package_core.specs.Card.{Card}
@@ -104,3 +106,40 @@ pub show_fault : (old new : ℕ) (refused_text : Option (List ℕ)) (state : Sta
     → FaultIs (λ refusal. Told old new refused_text (λ large. StepWith large state (package_show text) arrived (refused state refusal))) fault
 show_fault old new refused_text state text arrived (faults.Refused refusal) h = (h.0, h.1, (Some refusal, show_refuses h.0 state text (Some refusal) h.2, refl))
 show_fault old new refused_text state text arrived faults.OutOfMemory h = tt
+
+-- what the query of a text is, in terms of the grammar
+pub spelled : (text : List ℕ) (t : Tree) → query_of text ≡ Ok t → QueryText 64 text t × (length text ≤ 4096)
+unfolding query_of
+spelled text t e = by_length (nat_lt 4096 (length text)) refl e
+  where
+    by_reading : (r : Reading) → reading text ≡ r → tree_or_place r ≡ Ok t → QueryText 64 text t
+    by_reading (tree u) f g = let same : u ≡ t = cc in reading_found text t (f ∙ ap tree same)
+    by_reading (fault place kind) f g = cc
+
+    by_length : (b : Bool) → nat_lt 4096 (length text) ≡ b → (if b then Err 4096 else tree_or_place (reading text)) ≡ Ok t → QueryText 64 text t × (length text ≤ 4096)
+    by_length true f g = cc
+    by_length false f g = (by_reading (reading text) refl g, fits f)
+      where
+        fits : nat_lt 4096 (length text) ≡ false → length text ≤ 4096
+        fits h = search rules
+
+pub placed : (text : List ℕ) (at : ℕ) → query_of text ≡ Err at → ((4096 < length text) × (at ≡ 4096)) ⊎ ((length text ≤ 4096) × IsPlace 64 text at)
+unfolding query_of
+placed text at e = by_length (nat_lt 4096 (length text)) refl e
+  where
+    by_reading : (r : Reading) → reading text ≡ r → tree_or_place r ≡ Err at → IsPlace 64 text at
+    by_reading (tree u) f g = cc
+    by_reading (fault place kind) f g = let same : place ≡ at = cc in subst (IsPlace 64 text) same (reading_place text place kind f)
+
+    by_length : (b : Bool) → nat_lt 4096 (length text) ≡ b → (if b then Err 4096 else tree_or_place (reading text)) ≡ Err at → ((4096 < length text) × (at ≡ 4096)) ⊎ ((length text ≤ 4096) × IsPlace 64 text at)
+    by_length true f g = inl (over f, same)
+      where
+        over : nat_lt 4096 (length text) ≡ true → 4096 < length text
+        over h = search rules
+
+        same : at ≡ 4096
+        same = cc
+    by_length false f g = inr (fits f, by_reading (reading text) refl g)
+      where
+        fits : nat_lt 4096 (length text) ≡ false → length text ≤ 4096
+        fits h = search rules

@@ -42,7 +42,11 @@ pub(crate) fn folder_of(alloc: Global, text: &Text) -> Result<SafePath, ChangeFa
 }
 
 /// None of these flags may be written yet.
-pub(crate) fn no_flags(comment: &Option<Text>, distribution: &Option<Text>, component: &Option<Text>) -> Result<(), ChangeFault>
+pub(crate) fn no_flags(
+    comment: &Option<Text>,
+    distribution: &Option<Text>,
+    component: &Option<Text>,
+) -> Result<(), ChangeFault>
     ensures good { OnOk result (flagged comment.now distribution.now component.now ≡ None) }
     ensures fault { IfErr result (IsFirst (flagged comment.now distribution.now component.now)) }
 {
@@ -66,7 +70,11 @@ pub(crate) fn free_place(alloc: Global, repos: &[Repo], name: &Name) -> Result<u
 }
 
 /// The repository of this name. Where there is none it is unknown.
-pub(crate) fn there<'a>(alloc: Global, state: &'a State, name: &Name) -> Result<&'a Repo, ChangeFault>
+pub(crate) fn there<'a>(
+    alloc: Global,
+    state: &'a State,
+    name: &Name,
+) -> Result<&'a Repo, ChangeFault>
     ensures good { Valid state.now → OnOk result (unknown state.now.repos name.now ≡ None) }
     ensures fault { Valid state.now → IfErr result (IsFirst (unknown state.now.repos name.now)) }
     ensures found { Valid state.now → IfOk result (λ repo. repo_of name.now state.now.repos ≡ Some repo.now) }

@@ -15,7 +15,14 @@ use std::alloc::Global;
 
 /// The name of a new repository, and where it would go.
 #[tactic(auto, unfolding(crate::specs::Early::early))]
-pub(crate) fn create_early(alloc: Global, state: &State, comment: &Option<Text>, distribution: &Option<Text>, component: &Option<Text>, text: &Text) -> Result<(Name, usize), ChangeFault>
+pub(crate) fn create_early(
+    alloc: Global,
+    state: &State,
+    comment: &Option<Text>,
+    distribution: &Option<Text>,
+    component: &Option<Text>,
+    text: &Text,
+) -> Result<(Name, usize), ChangeFault>
     ensures good { Valid state.now → OnOk result (early state.now (repo_create comment.now distribution.now component.now text.now) ≡ None) }
     ensures fault { Valid state.now → IfErr result (IsFirst (early state.now (repo_create comment.now distribution.now component.now text.now))) }
     ensures name { IfOk result (λ made. made.0 ≡ text.now) }
@@ -30,7 +37,12 @@ pub(crate) fn create_early(alloc: Global, state: &State, comment: &Option<Text>,
 
 /// The repository and the folder of an addition.
 #[tactic(auto, unfolding(crate::specs::Early::early))]
-pub(crate) fn add_early(alloc: Global, state: &State, name: &Text, folder: &Text) -> Result<(Name, SafePath), ChangeFault>
+pub(crate) fn add_early(
+    alloc: Global,
+    state: &State,
+    name: &Text,
+    folder: &Text,
+) -> Result<(Name, SafePath), ChangeFault>
     ensures good { Valid state.now → OnOk result (early state.now (repo_add name.now folder.now) ≡ None) }
     ensures fault { Valid state.now → IfErr result (IsFirst (early state.now (repo_add name.now folder.now))) }
     ensures name { IfOk result (λ read. read.0 ≡ name.now) }
@@ -44,7 +56,11 @@ pub(crate) fn add_early(alloc: Global, state: &State, name: &Text, folder: &Text
 
 /// The repository that is to be shown.
 #[tactic(auto, unfolding(crate::specs::Early::early))]
-pub(crate) fn show_early<'a>(alloc: Global, state: &'a State, text: &Text) -> Result<&'a Repo, ChangeFault>
+pub(crate) fn show_early<'a>(
+    alloc: Global,
+    state: &'a State,
+    text: &Text,
+) -> Result<&'a Repo, ChangeFault>
     ensures good { (packages : Option Bool) → Valid state.now → OnOk result (early state.now (repo_show packages text.now) ≡ None) }
     ensures fault { (packages : Option Bool) → Valid state.now → IfErr result (IsFirst (early state.now (repo_show packages text.now))) }
     ensures found { Valid state.now → IfOk result (λ repo. repo_of text.now state.now.repos ≡ Some repo.now) }

@@ -15,7 +15,14 @@ use query_eval::Patterns;
 use std::alloc::Global;
 
 #[tactic(auto, unfolding(crate::specs::Early::conditions, crate::specs::Early::folder_read))]
-fn create_needs(alloc: Global, state: &State, comment: &Option<Text>, distribution: &Option<Text>, component: &Option<Text>, name: &Text) -> Result<Reading, ChangeFault>
+fn create_needs(
+    alloc: Global,
+    state: &State,
+    comment: &Option<Text>,
+    distribution: &Option<Text>,
+    component: &Option<Text>,
+    name: &Text,
+) -> Result<Reading, ChangeFault>
     ensures ok { Valid state.now → IfOk result (λ wanted. Refuses None state.now (repo_create comment.now distribution.now component.now name.now) None × (wanted ≡ reading_for (folder_read state.now (repo_create comment.now distribution.now component.now name.now)))) }
     ensures fault { Valid state.now → IfErr result (FaultIs (λ refusal. Refuses None state.now (repo_create comment.now distribution.now component.now name.now) (Some refusal))) }
 {
@@ -24,7 +31,12 @@ fn create_needs(alloc: Global, state: &State, comment: &Option<Text>, distributi
 }
 
 #[tactic(auto, unfolding(crate::specs::Early::conditions, crate::specs::Early::folder_read))]
-fn add_needs(alloc: Global, state: &State, name: &Text, folder: &Text) -> Result<Reading, ChangeFault>
+fn add_needs(
+    alloc: Global,
+    state: &State,
+    name: &Text,
+    folder: &Text,
+) -> Result<Reading, ChangeFault>
     ensures ok { Valid state.now → IfOk result (λ wanted. Refuses None state.now (repo_add name.now folder.now) None × (wanted ≡ reading_for (folder_read state.now (repo_add name.now folder.now)))) }
     ensures fault { Valid state.now → IfErr result (FaultIs (λ refusal. Refuses None state.now (repo_add name.now folder.now) (Some refusal))) }
 {
@@ -33,7 +45,12 @@ fn add_needs(alloc: Global, state: &State, name: &Text, folder: &Text) -> Result
 }
 
 #[tactic(auto, unfolding(crate::specs::Early::conditions, crate::specs::Early::folder_read))]
-fn show_needs(alloc: Global, state: &State, with_packages: &Option<bool>, name: &Text) -> Result<Reading, ChangeFault>
+fn show_needs(
+    alloc: Global,
+    state: &State,
+    with_packages: &Option<bool>,
+    name: &Text,
+) -> Result<Reading, ChangeFault>
     ensures ok { Valid state.now → IfOk result (λ wanted. Refuses None state.now (repo_show with_packages.now name.now) None × (wanted ≡ reading_for (folder_read state.now (repo_show with_packages.now name.now)))) }
     ensures fault { Valid state.now → IfErr result (FaultIs (λ refusal. Refuses None state.now (repo_show with_packages.now name.now) (Some refusal))) }
 {
@@ -42,7 +59,12 @@ fn show_needs(alloc: Global, state: &State, with_packages: &Option<bool>, name: 
 }
 
 #[tactic(auto, unfolding(crate::specs::Early::early, crate::specs::Early::conditions, crate::specs::Early::folder_read))]
-fn search_needs<M: Patterns>(alloc: Global, state: &State, query: &Text, patterns: &mut M) -> Result<Reading, ChangeFault>
+fn search_needs<M: Patterns>(
+    alloc: Global,
+    state: &State,
+    query: &Text,
+    patterns: &mut M,
+) -> Result<Reading, ChangeFault>
     ensures search { IfOk result (λ wanted. Refuses None state.now (package_search query.now) None × (wanted ≡ reading_for (folder_read state.now (package_search query.now)))) }
     ensures search_fault { IfErr result (FaultIs (λ refusal. Told (M.refusals patterns.old) (M.refusals patterns.new) (M.refused patterns.new) (λ large. Refuses large state.now (package_search query.now) (Some refusal)))) }
     ensures show { IfOk result (λ wanted. Refuses None state.now (package_show query.now) None × (wanted ≡ reading_for (folder_read state.now (package_show query.now)))) }
@@ -75,8 +97,13 @@ pub fn need<M: Patterns>(
             name,
         } => create_needs(alloc, state, comment, distribution, component, name),
         Command::RepoAdd { name, folder } => add_needs(alloc, state, name, folder),
-        Command::RepoShow { with_packages, name } => show_needs(alloc, state, with_packages, name),
-        Command::PackageSearch { query } | Command::PackageShow { query } => search_needs(alloc, state, query, patterns),
+        Command::RepoShow {
+            with_packages,
+            name,
+        } => show_needs(alloc, state, with_packages, name),
+        Command::PackageSearch { query } | Command::PackageShow { query } => search_needs(
+            alloc, state, query, patterns,
+        ),
         _ => Err(ChangeFault::Refused(Refusal::NotBuilt)),
     }
 }

@@ -22,13 +22,20 @@ fn read(alloc: Global, text: &Text) -> Result<Query, ChangeFault>
 {
     match read_query(alloc, text.as_str()) {
         Ok(query) => Ok(query),
-        Err(QueryFault::At { place, .. }) => Err(ChangeFault::Refused(Refusal::BadQuery { query: 1, place })),
+        Err(QueryFault::At { place, .. }) => Err(ChangeFault::Refused(Refusal::BadQuery {
+            query: 1,
+            place,
+        })),
         Err(QueryFault::OutOfMemory) => Err(ChangeFault::OutOfMemory),
     }
 }
 
 /// The query with its patterns built.
-fn built<M: Patterns>(alloc: Global, query: &Query, patterns: &mut M) -> Result<Prepared, ChangeFault>
+fn built<M: Patterns>(
+    alloc: Global,
+    query: &Query,
+    patterns: &mut M,
+) -> Result<Prepared, ChangeFault>
     ensures same { IfOk result (λ made. made ≡ plain query.now) }
     ensures read { OnOk result (IsPick None (patterns_of (plain query.now)) None) }
     ensures fault { IfErr result (FaultIs (λ refusal. Told (M.refusals patterns.old) (M.refusals patterns.new) (M.refused patterns.new) (λ large. IsPick large (patterns_of (plain query.now)) (Some refusal)))) }
@@ -36,14 +43,24 @@ fn built<M: Patterns>(alloc: Global, query: &Query, patterns: &mut M) -> Result<
 {
     match Prepared::new(alloc, query, patterns) {
         Ok(prepared) => Ok(prepared),
-        Err(EvalFault::BadPattern(test)) => Err(ChangeFault::Refused(Refusal::BadPattern { query: 1, test })),
-        Err(EvalFault::PatternTooLarge(test)) => Err(ChangeFault::Refused(Refusal::PatternTooLarge { query: 1, test })),
+        Err(EvalFault::BadPattern(test)) => Err(ChangeFault::Refused(Refusal::BadPattern {
+            query: 1,
+            test,
+        })),
+        Err(EvalFault::PatternTooLarge(test)) => Err(ChangeFault::Refused(Refusal::PatternTooLarge {
+            query: 1,
+            test,
+        })),
         Err(EvalFault::OutOfMemory) => Err(ChangeFault::OutOfMemory),
     }
 }
 
 /// The query that a text spells, with its patterns built.
-pub(crate) fn prepared<M: Patterns>(alloc: Global, text: &Text, patterns: &mut M) -> Result<Prepared, ChangeFault>
+pub(crate) fn prepared<M: Patterns>(
+    alloc: Global,
+    text: &Text,
+    patterns: &mut M,
+) -> Result<Prepared, ChangeFault>
     ensures same { IfOk result (λ made. query_of text.now ≡ Ok made) }
     ensures good { OnOk result (RefusesQuery None text.now None) }
     ensures fault { IfErr result (FaultIs (λ refusal. Told (M.refusals patterns.old) (M.refusals patterns.new) (M.refused patterns.new) (λ large. RefusesQuery large text.now (Some refusal)))) }
@@ -68,7 +85,12 @@ fn found_in(alloc: Global, list: &PackageList, asked: &Prepared) -> Result<Packa
 }
 
 /// The known packages of which the query of a text is true.
-pub(crate) fn search<M: Patterns>(alloc: Global, state: &State, text: &Text, patterns: &mut M) -> Result<PackageList, ChangeFault>
+pub(crate) fn search<M: Patterns>(
+    alloc: Global,
+    state: &State,
+    text: &Text,
+    patterns: &mut M,
+) -> Result<PackageList, ChangeFault>
     ensures found { IfOk result (λ found. found ≡ found_by state.now.known (query_of text.now)) }
     ensures good { OnOk result (RefusesQuery None text.now None) }
     ensures fault { IfErr result (FaultIs (λ refusal. Told (M.refusals patterns.old) (M.refusals patterns.new) (M.refused patterns.new) (λ large. RefusesQuery large text.now (Some refusal)))) }

@@ -55,7 +55,14 @@ fn make(alloc: Global, state: &State, place: usize, name: Name) -> Result<Change
 }
 
 /// `repo create`, of which no flag is built yet.
-pub(crate) fn create(alloc: Global, state: &State, comment: &Option<Text>, distribution: &Option<Text>, component: &Option<Text>, name: &Text) -> Result<Change, ChangeFault>
+pub(crate) fn create(
+    alloc: Global,
+    state: &State,
+    comment: &Option<Text>,
+    distribution: &Option<Text>,
+    component: &Option<Text>,
+    name: &Text,
+) -> Result<Change, ChangeFault>
     ensures ok { (arrived : ArrivedOf) → Valid state.now → IfOk result (λ change. StepWith None state.now (repo_create comment.now distribution.now component.now name.now) arrived (changed state.now change)) }
     ensures fault { (arrived : ArrivedOf) → Valid state.now → IfErr result (FaultIs (λ refusal. StepWith None state.now (repo_create comment.now distribution.now component.now name.now) arrived (refused state.now refusal))) }
     ensures new { Valid state.now → IfOk result (λ change. IsNew state.now change.state) }
@@ -81,7 +88,12 @@ fn joined(alloc: Global, own: &PackageList, more: &PackageList) -> Result<Packag
 }
 
 /// The repository with these packages added, if it has that name.
-fn with_more(alloc: Global, name: &Name, list: &PackageList, repo: &Repo) -> Result<Repo, ChangeFault>
+fn with_more(
+    alloc: Global,
+    name: &Name,
+    list: &PackageList,
+    repo: &Repo,
+) -> Result<Repo, ChangeFault>
     ensures same { IfOk result (λ made. made ≡ with_more_of name.now list.now repo.now) }
     ensures fits { length (with_more_of name.now list.now repo.now).list ≤ 400000 → IfErr result IsMemory }
 {
@@ -93,7 +105,12 @@ fn with_more(alloc: Global, name: &Name, list: &PackageList, repo: &Repo) -> Res
 }
 
 /// All repositories, with these packages added to the one of that name.
-fn all_with_more(alloc: Global, name: &Name, list: &PackageList, repos: &[Repo]) -> Result<Vec<Repo>, ChangeFault>
+fn all_with_more(
+    alloc: Global,
+    name: &Name,
+    list: &PackageList,
+    repos: &[Repo],
+) -> Result<Vec<Repo>, ChangeFault>
     ensures same { IfOk result (λ made. made.items ≡ map (with_more_of name.now list.now) repos.now) }
     ensures fits { All (λ repo. length repo.list ≤ 400000) (map (with_more_of name.now list.now) repos.now) → IfErr result IsMemory }
 {
@@ -105,7 +122,12 @@ fn all_with_more(alloc: Global, name: &Name, list: &PackageList, repos: &[Repo])
 }
 
 /// The state with these packages known, and added to the repository of that name.
-fn state_with(alloc: Global, state: &State, name: &Name, list: &PackageList) -> Result<State, ChangeFault>
+fn state_with(
+    alloc: Global,
+    state: &State,
+    name: &Name,
+    list: &PackageList,
+) -> Result<State, ChangeFault>
     ensures same { IfOk result (λ made. made ≡ added state.now name.now list.now) }
     ensures fits { FitsIn state.now name.now list.now → IfErr result IsMemory }
 {
@@ -115,7 +137,12 @@ fn state_with(alloc: Global, state: &State, name: &Name, list: &PackageList) -> 
 }
 
 /// Adds what arrived to the repository. Where it has all of it the state stays as it was.
-fn take_in(alloc: Global, state: &State, name: &Name, list: &PackageList) -> Result<Change, ChangeFault>
+fn take_in(
+    alloc: Global,
+    state: &State,
+    name: &Name,
+    list: &PackageList,
+) -> Result<Change, ChangeFault>
     ensures taken { (date : List ℕ) → Valid state.now → FitsIn state.now name.now list.now → IsTrue (is_some (repo_of name.now state.now.repos)) → IfOk result (λ change. changed state.now change ≡ taken_in state.now name.now (arrivals.List list.now date)) }
     ensures fits { Valid state.now → FitsIn state.now name.now list.now → IsTrue (is_some (repo_of name.now state.now.repos)) → IfErr result IsMemory }
     ensures new { Valid state.now → IsTrue (is_some (repo_of name.now state.now.repos)) → IfOk result (λ change. IsNew state.now change.state) }
@@ -135,7 +162,13 @@ fn take_in(alloc: Global, state: &State, name: &Name, list: &PackageList) -> Res
 }
 
 /// `repo add`, with what arrived.
-pub(crate) fn add(alloc: Global, state: &State, name: &Text, folder: &Text, arrived: &Arrived) -> Result<Change, ChangeFault>
+pub(crate) fn add(
+    alloc: Global,
+    state: &State,
+    name: &Text,
+    folder: &Text,
+    arrived: &Arrived,
+) -> Result<Change, ChangeFault>
     ensures ok { (files : Option Files) → Valid state.now → MayArrive files state.now (repo_add name.now folder.now) arrived.now → IfOk result (λ change. StepWith None state.now (repo_add name.now folder.now) arrived.now (changed state.now change)) }
     ensures fault { (files : Option Files) → Valid state.now → MayArrive files state.now (repo_add name.now folder.now) arrived.now → IfErr result (FaultIs (λ refusal. StepWith None state.now (repo_add name.now folder.now) arrived.now (refused state.now refusal))) }
     ensures new { (files : Option Files) → Valid state.now → MayArrive files state.now (repo_add name.now folder.now) arrived.now → IfOk result (λ change. IsNew state.now change.state) }
@@ -150,7 +183,12 @@ pub(crate) fn add(alloc: Global, state: &State, name: &Text, folder: &Text, arri
 }
 
 /// `repo show`.
-pub(crate) fn show(alloc: Global, state: &State, with_packages: &Option<bool>, name: &Text) -> Result<Change, ChangeFault>
+pub(crate) fn show(
+    alloc: Global,
+    state: &State,
+    with_packages: &Option<bool>,
+    name: &Text,
+) -> Result<Change, ChangeFault>
     ensures ok { (arrived : ArrivedOf) → Valid state.now → IfOk result (λ change. StepWith None state.now (repo_show with_packages.now name.now) arrived (changed state.now change)) }
     ensures fault { (arrived : ArrivedOf) → Valid state.now → IfErr result (FaultIs (λ refusal. StepWith None state.now (repo_show with_packages.now name.now) arrived (refused state.now refusal))) }
     ensures new { IfOk result (λ change. IsNew state.now change.state) }

@@ -18,7 +18,12 @@ use reply_text::{package_search, package_show};
 use std::alloc::{AllocError, Global};
 
 /// `package search`.
-fn search_change<M: Patterns>(alloc: Global, state: &State, query: &Text, patterns: &mut M) -> Result<Change, ChangeFault>
+fn search_change<M: Patterns>(
+    alloc: Global,
+    state: &State,
+    query: &Text,
+    patterns: &mut M,
+) -> Result<Change, ChangeFault>
     ensures ok { (arrived : ArrivedOf) → IfOk result (λ change. Told (M.refusals patterns.old) (M.refusals patterns.new) (M.refused patterns.new) (λ large. StepWith large state.now (searched query.now) arrived (changed state.now change))) }
     ensures fault { (arrived : ArrivedOf) → IfErr result (FaultIs (λ refusal. Told (M.refusals patterns.old) (M.refusals patterns.new) (M.refused patterns.new) (λ large. StepWith large state.now (searched query.now) arrived (refused state.now refusal)))) }
     ensures new { IfOk result (λ change. IsNew state.now change.state) }
@@ -30,7 +35,12 @@ fn search_change<M: Patterns>(alloc: Global, state: &State, query: &Text, patter
 }
 
 /// `package show`.
-fn show_change<M: Patterns>(alloc: Global, state: &State, query: &Text, patterns: &mut M) -> Result<Change, ChangeFault>
+fn show_change<M: Patterns>(
+    alloc: Global,
+    state: &State,
+    query: &Text,
+    patterns: &mut M,
+) -> Result<Change, ChangeFault>
     ensures ok { (arrived : ArrivedOf) → IfOk result (λ change. Told (M.refusals patterns.old) (M.refusals patterns.new) (M.refused patterns.new) (λ large. StepWith large state.now (shown query.now) arrived (changed state.now change))) }
     ensures fault { (arrived : ArrivedOf) → IfErr result (FaultIs (λ refusal. Told (M.refusals patterns.old) (M.refusals patterns.new) (M.refused patterns.new) (λ large. StepWith large state.now (shown query.now) arrived (refused state.now refusal)))) }
     ensures new { IfOk result (λ change. IsNew state.now change.state) }
@@ -62,7 +72,10 @@ fn change_of<M: Patterns>(
             name,
         } => create(alloc, state, comment, distribution, component, name),
         Command::RepoAdd { name, folder } => add(alloc, state, name, folder, arrived),
-        Command::RepoShow { with_packages, name } => show(alloc, state, with_packages, name),
+        Command::RepoShow {
+            with_packages,
+            name,
+        } => show(alloc, state, with_packages, name),
         Command::PackageSearch { query } => search_change(alloc, state, query, patterns),
         Command::PackageShow { query } => show_change(alloc, state, query, patterns),
         _ => Err(ChangeFault::Refused(Refusal::NotBuilt)),

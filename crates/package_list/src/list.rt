@@ -58,14 +58,6 @@ impl PackageList {
         }
     }
 
-    /// The list of these packages, which stand in the order of packages, no two of them equal.
-    pub fn from_ascending(items: Vec<Rc<Package>>) -> PackageList
-        requires { IsAscending package_cmp (map rc_value items.items) }
-        ensures { result ≡ map rc_value items.items }
-    {
-        PackageList { items }
-    }
-
     /// The members stand in the order of packages, no two of them equal.
     pub fn members_ascend(&self)
         ensures { IsAscending package_cmp self.now }

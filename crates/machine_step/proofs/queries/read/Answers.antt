@@ -1,4 +1,5 @@
 use Rattle.std.proofs.Common.{◌≡◌, ◌∙◌, ◌≤◌, List, ℕ, length, sym, subst}
+use Rattle.query_grammar.specs.declared.fault.QueryFault.{QueryFault}
 use Rattle.query_grammar.specs.declared.fault.QueryFault.TheVariants.{At}
 use Rattle.query_grammar.specs.Tree.{plain}
 use Rattle.query_grammar.specs.Grammar.{QueryText}
@@ -14,4 +15,4 @@ returns-in-Ok-clause-tree c =
 pub returns-in-Err-At-clause-fault : goal.returns-in-Err-At-clause-fault
 returns-in-Err-At-clause-fault c =
     bad_place c.args.text.now c.in-Err-At.place
-    (query_fault c.args.text.now c.in-Err-At.place _ (subst (λ (t : List ℕ). IsQueryFault t (At c.in-Err-At.place c.in-Err-At.field-0-1)) c.as_str.ensures (rw (sym c.in-Err-At.field-0-is) c.in-Err-At.ensures.fault)))
+    (query_fault c.args.text.now c.in-Err-At.place _ (subst (λ (t : List ℕ). IsQueryFault t (At c.in-Err-At.place c.in-Err-At.field-0-1)) c.as_str.ensures (subst (λ (e : QueryFault). IsQueryFault c.as_str.result.now e) c.in-Err-At.field-0-is c.in-Err-At.ensures.fault)))

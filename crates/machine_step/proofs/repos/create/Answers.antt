@@ -1,4 +1,7 @@
-use Rattle.machine_step.proofs.StepLemmas.{at_exit, fault_first}
+use Rattle.std.proofs.Common.{arith, ap, length}
+use Rattle.std.proofs.lemmas.Result.{IfOk-weaker}
+use Rattle.machine_state.specs.Values.{StateView}
+use Rattle.machine_step.proofs.StepLemmas.{at_exit, fault_first, refused_full, created_step, created_new}
 use Rattle.machine_step.proofs.repos.create.Goals as goal
 
 pub returns-in_err-name-clause-fault : goal.returns-in_err-name-clause-fault
@@ -7,7 +10,18 @@ returns-in_err-name-clause-fault c = λ arrived v.
     at_exit c.from_residual.result fault _ c.from_residual.ensures.1 (fault_first _ c.args.state.now _ arrived fault (c.in_err-name.ensures.fault v))
 
 pub returns-then-len-number-clause-fault : goal.returns-then-len-number-clause-fault
-returns-then-len-number-clause-fault c = λ arrived v. let t = c.if-len-number.true in let l = c.len.ensures in let n = c.number.ensures in let w = c.state.view_is in ?
+returns-then-len-number-clause-fault c = λ arrived v.
+    let count = ap (λ (s : StateView). length s.repos) c.state.view_is in
+    refused_full c.args.state.now c.args.comment.now c.args.distribution.now c.args.component.now c.args.name.now arrived
+    (omega (arith, c.if-len-number.true, c.len.ensures, c.number.ensures, count, c.state.inside.repos.ok.0)) (c.in_ok-name.ensures.good v)
 
 pub returns-clause-ok : goal.returns-clause-ok
-returns-clause-ok c = λ arrived v. let m = c.make.ensures.same in let f = c.if-len-number.false in let p = c.in_ok-name.ensures.place in let n = c.in_ok-name.ensures.name in ?
+returns-clause-ok c = λ arrived v.
+    let count = ap (λ (s : StateView). length s.repos) c.state.view_is in
+    IfOk-weaker c.make.result _ _
+    (λ change e. created_step c.args.state.now c.args.comment.now c.args.distribution.now c.args.component.now c.args.name.now c.in_ok-name.name c.in_ok-name.place change arrived e c.in_ok-name.ensures.name (c.in_ok-name.ensures.place v)
+    (omega (arith, c.if-len-number.false, c.len.ensures, c.number.ensures, count, c.state.inside.repos.ok.0)) (c.in_ok-name.ensures.good v))
+    c.make.ensures.same
+
+pub returns-clause-new : goal.returns-clause-new
+returns-clause-new c = λ v. IfOk-weaker c.make.result _ _ (λ change e. created_new c.args.state.now c.in_ok-name.name c.in_ok-name.place change e c.in_ok-name.ensures.bound) c.make.ensures.same

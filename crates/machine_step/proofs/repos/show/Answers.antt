@@ -1,4 +1,6 @@
-use Rattle.machine_step.proofs.StepLemmas.{at_exit, fault_first}
+use Rattle.std.proofs.Common.{◌∙◌, ap}
+use Rattle.reply_text.specs.Replies.{repo_show}
+use Rattle.machine_step.proofs.StepLemmas.{at_exit, fault_first, shown_step}
 use Rattle.machine_step.proofs.repos.show.Goals as goal
 
 pub returns-in_err-repo-clause-fault : goal.returns-in_err-repo-clause-fault
@@ -7,4 +9,6 @@ returns-in_err-repo-clause-fault c = λ arrived v.
     at_exit c.from_residual.result fault _ c.from_residual.ensures.1 (fault_first _ c.args.state.now _ arrived fault (c.in_err-repo.ensures.fault c.args.with_packages.now v))
 
 pub returns-clause-ok : goal.returns-clause-ok
-returns-clause-ok c = λ arrived v. let f = c.in_ok-repo.ensures.found in let u = c.unwrap_or.ensures in let r = c.in_ok-reply.ensures in ?
+returns-clause-ok c = λ arrived v.
+    shown_step c.args.state.now c.args.with_packages.now c.args.name.now c.in_ok-reply.reply c.in_ok-repo.repo.now arrived (c.in_ok-repo.ensures.good c.args.with_packages.now v)
+    (c.in_ok-repo.ensures.found v) (c.in_ok-reply.ensures ∙ ap (repo_show c.in_ok-repo.repo.now) c.unwrap_or.ensures)
