@@ -8,3 +8,5 @@ pub mod ValidLemmas
 pub mod RootTexts
 pub mod KnownLemmas
 pub mod ReadLemmas
+pub mod StateLemmas
+pub mod WriteLemmas

@@ -100,10 +100,10 @@ fn line_ends(text: &[u8]) -> usize
 
 /// The number, from 1, of the line that begins where so many bytes are left, or would begin there.
 pub(crate) fn line_before(text: &[u8], left: usize) -> u64
-    requires { left ≤ length text.now }
-    ensures { let front = take (length text.now - left) text.now in result ≡ 1 + line_ends_of front + (if ended front then 0 else 1) }
+    ensures number { let front = take (length text.now - left) text.now in result ≡ 1 + line_ends_of front + (if ended front then 0 else 1) }
+    ensures small { length text.now < 2 ^ 64 }
 {
-    let (front, _) = text.split_at(text.len() - left);
+    let (front, _) = text.split_at(text.len().saturating_sub(left));
     let ends = line_ends(front) as u64;
     if is_ended(front) { ends + 1 } else { ends + 2 }
 }

@@ -1,6 +1,7 @@
 //! A root text read back.
-ghost use Rattle.std.specs.Prelude.{◌≡◌, ℕ, [], List, IfOk, IfErr, MatchResult};
+ghost use Rattle.std.specs.Prelude.{◌≡◌, ◌↔◌, IsTrue, true, ◌<◌, ◌^◌, ℕ, [], List, length, IfOk, IfErr, MatchResult};
 ghost use Rattle.machine_state.specs.State.{Valid};
+ghost use Rattle.catalogue_text.specs.Lines.{is_ended as ended};
 ghost use Rattle.catalogue_text.specs.Root.{root_text as root_of, last_pieces};
 ghost use Rattle.catalogue_text.specs.Grammar.{LastPart, IsWithinLimits};
 ghost use Rattle.catalogue_text.specs.Faults.{TextsApart, IsRootFault};
@@ -31,10 +32,17 @@ fn read_last<'a>(text: &'a [u8], known: &Known) -> Result<&'a [u8], usize>
     if known.is_within_limits() { Ok(behind) } else { Err(rest.len()) }
 }
 
+/// Whether nothing is left of a text whose last line has its line end.
+fn is_at_end(text: &[u8], rest: &[u8]) -> bool
+    ensures { IsTrue result ↔ ((rest.now ≡ []) × (ended text.now ≡ true)) }
+{
+    rest.is_empty() && is_ended(text)
+}
+
 /// The state whose root text the bytes are, or where they stop being one.
 fn read_state(alloc: Global, bytes: &[u8]) -> Result<State, Stop>
     ensures found { IfOk result (λ state. Valid state × (bytes.now ≡ root_of state)) }
-    ensures stops { IfErr result (λ stop. IfBefore stop (λ left. TextsApart bytes.now → StopsRoot bytes.now left)) }
+    ensures stops { IfErr result (λ stop. IfBefore stop (λ left. length bytes.now < 2 ^ 64 → TextsApart bytes.now → StopsRoot bytes.now left)) }
 {
     let (known, rest) = match read_known(alloc, bytes) {
         Ok(head) => head,
@@ -48,7 +56,7 @@ fn read_state(alloc: Global, bytes: &[u8]) -> Result<State, Stop>
         Ok(rest) => rest,
         Err(left) => return Err(Stop::Before(left)),
     };
-    if !rest.is_empty() || !is_ended(bytes) {
+    if !is_at_end(bytes, rest) {
         return Err(Stop::Before(rest.len()));
     }
     Ok(State {

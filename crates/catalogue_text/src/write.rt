@@ -86,9 +86,10 @@ fn put_packages(alloc: Global, out: &mut String, known: &PackageList) -> Result<
     ensures { OnOk result (string_bytes out.new ≡ string_bytes out.old ++ joined (map packed known.now)) }
 {
     for i in 0..known.len() {
-        if let Some(package) = known.get(i) {
-            put_package(alloc, out, package)?;
-        }
+        let Some(package) = known.get(i) else {
+            return Ok(());
+        };
+        put_package(alloc, out, package)?;
     }
     Ok(())
 }
@@ -97,9 +98,10 @@ fn put_ids(alloc: Global, out: &mut String, list: &PackageList) -> Result<(), Al
     ensures { OnOk result (string_bytes out.new ≡ string_bytes out.old ++ joined (map (λ p. alone (id_of p)) list.now)) }
 {
     for i in 0..list.len() {
-        if let Some(member) = list.get(i) {
-            put_id(alloc, out, member)?;
-        }
+        let Some(member) = list.get(i) else {
+            return Ok(());
+        };
+        put_id(alloc, out, member)?;
     }
     Ok(())
 }

@@ -1,0 +1,60 @@
+-- Texts written piece by piece.
+use Rattle.std.proofs.Common.{◌≡◌, ℕ, zero, suc, ◌+◌, ◌<◌, ◌≤◌, List, [], ◌∷◌, ◌++◌, length, take, map, Option, Some, Result, Ok, Err, refl, sym, ap, ◌∙◌, subst, arith, append_assoc, append-nil}
+use Rattle.std.specs.Prelude.{slice_get}
+use Rattle.std.specs.Result.{OnOk}
+use Rattle.std.specs.List.{flat_map}
+use Rattle.std.proofs.lemmas.List.{map-append, take_all}
+use Rattle.std.proofs.lemmas.List.Concat.{flat_map-append}
+use Rattle.package_core.specs.Card.{Card}
+use Rattle.machine_state.specs.Values.{StateView}
+use Rattle.catalogue_text.specs.Pieces.{Piece, alone, piece_text}
+use Rattle.catalogue_text.specs.Root.{joined, known_pieces, repos_pieces, last_pieces, root_pieces, root_text}
+
+take_more : (xs : List Card) (i : ℕ) (p : Card) → slice_get xs i ≡ Some p → take (i + 1) xs ≡ take i xs ++ p ∷ []
+take_more [] i p e = cc
+take_more (x ∷ xs) zero p e = let same : x ≡ p = cc in ap (λ n. take n (x ∷ xs)) one ∙ ap (λ y. y ∷ []) same
+  where
+    one : 0 + 1 ≡ suc zero
+    one = omega arith
+take_more (x ∷ xs) (suc i) p e = ap (λ n. take n (x ∷ xs)) more ∙ ap (λ l. x ∷ l) (take_more xs i p e)
+  where
+    more : suc i + 1 ≡ suc (i + 1)
+    more = omega arith
+
+pub put_more : (f : Card → Piece) (xs : List Card) (i : ℕ) (p : Card) (o a b : List ℕ) → slice_get xs i ≡ Some p → a ≡ o ++ joined (map f (take i xs)) → b ≡ a ++ piece_text (f p) → b ≡ o ++ joined (map f (take (i + 1) xs))
+put_more f xs i p o a b e g h =
+    h ∙ ap (λ t. t ++ piece_text (f p)) g ∙ append_assoc o (joined (map f (take i xs))) (piece_text (f p)) ∙ ap (λ t. o ++ t) (sym more)
+  where
+    more : joined (map f (take (i + 1) xs)) ≡ joined (map f (take i xs)) ++ piece_text (f p)
+    more = ap (λ l. joined (map f l)) (take_more xs i p e) ∙ ap joined (map-append f (take i xs) (p ∷ [])) ∙ flat_map-append piece_text (map f (take i xs)) (f p ∷ []) ∙ ap (λ t. joined (map f (take i xs)) ++ t) (append-nil (piece_text (f p)))
+
+pub put_all : (f : Card → Piece) (xs : List Card) (n : ℕ) (o a : List ℕ) → length xs ≤ n → a ≡ o ++ joined (map f (take n xs)) → a ≡ o ++ joined (map f xs)
+put_all f xs n o a le e = e ∙ ap (λ l. o ++ joined (map f l)) (take_all n xs le)
+
+-- three pieces
+pub three : {T E : Type 0} (r : Result T E) (o x y z a b c : List ℕ) → x ≡ o ++ a → y ≡ x ++ b → OnOk r (z ≡ y ++ c) → OnOk r (z ≡ o ++ (a ++ (b ++ (c ++ []))))
+three (Ok t) o x y z a b c e f g =
+    g ∙ ap (λ t. t ++ c) (f ∙ ap (λ t. t ++ b) e) ∙ simp (append_assoc, append-nil)
+three (Err t) o x y z a b c e f g = tt
+
+pub on_ok : {T E : Type 0} (r : Result T E) (P Q : Type 0) → (P → Q) → OnOk r P → OnOk r Q
+on_ok (Ok t) P Q f h = f h
+on_ok (Err e) P Q f h = tt
+
+pub then_one : (o y z b c : List ℕ) → y ≡ o ++ b → z ≡ y ++ c → z ≡ o ++ (b ++ c)
+then_one o y z b c e f = f ∙ ap (λ t. t ++ c) e ∙ append_assoc o b c
+
+pub then_two : (o x y z a b c : List ℕ) → x ≡ o ++ a → y ≡ x ++ b → z ≡ y ++ c → z ≡ o ++ (a ++ (b ++ c))
+then_two o x y z a b c e f g = then_one x y z b c f g ∙ ap (λ t. t ++ (b ++ c)) e ∙ append_assoc o a (b ++ c)
+
+pub then_four : (o v w x y z a b c d k : List ℕ) → v ≡ o ++ a → w ≡ v ++ b → x ≡ w ++ c → y ≡ x ++ d → z ≡ y ++ k → z ≡ o ++ (a ++ (b ++ (c ++ (d ++ k))))
+then_four o v w x y z a b c d k e f g h i = then_two w x y z c d k g h i ∙ ap (λ t. t ++ (c ++ (d ++ k))) (f ∙ ap (λ t. t ++ b) e ∙ append_assoc o a b) ∙ append_assoc o (a ++ b) (c ++ (d ++ k)) ∙ ap (λ t. o ++ t) (append_assoc a b (c ++ (d ++ k)))
+
+pub root_joined : (state : StateView) → root_text state ≡ joined (known_pieces state.known) ++ (joined (repos_pieces state.repos) ++ joined last_pieces)
+unfolding root_text root_pieces
+root_joined state =
+    flat_map-append piece_text (known_pieces state.known) (repos_pieces state.repos ++ last_pieces)
+    ∙ ap (λ t. joined (known_pieces state.known) ++ t) (flat_map-append piece_text (repos_pieces state.repos) last_pieces)
+
+pub whole_text : (state : StateView) (o x y z : List ℕ) → o ≡ [] → x ≡ o ++ joined (known_pieces state.known) → y ≡ x ++ joined (repos_pieces state.repos) → z ≡ y ++ joined last_pieces → z ≡ root_text state
+whole_text state o x y z n e f g = then_two o x y z _ _ _ e f g ∙ ap (λ t. t ++ (joined (known_pieces state.known) ++ (joined (repos_pieces state.repos) ++ joined last_pieces))) n ∙ sym (root_joined state)

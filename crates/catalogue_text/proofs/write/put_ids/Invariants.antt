@@ -1,0 +1,7 @@
+use Rattle.std.proofs.Common.{◌≡◌, ◌++◌, take, map, string_bytes}
+use Rattle.catalogue_text.specs.Pieces.{alone}
+use Rattle.catalogue_text.specs.Root.{joined, id_of}
+use Rattle.catalogue_text.proofs.write.put_ids.Given as goal
+
+abbrev pub invariant-loop-i : goal.invariant-loop-i
+invariant-loop-i l = string_bytes l.out ≡ string_bytes l.fn.out ++ joined (map (λ p. alone (id_of p)) (take l.i l.list))
