@@ -1,5 +1,6 @@
 -- What the arrival of a folder answers, and what it does to the store.
-use Rattle.std.specs.Prelude.{◌≡◌, ◌⊎◌, ℕ, List, [], All, Option, Some, None, Result, Ok, Err, IfOk, IsTrue}
+use Rattle.std.specs.Prelude.{◌≡◌, ◌⊎◌, ℕ, List, [], All, Option, Some, None, Result, Ok, Err, IfOk, IsTrue, ◌≤◌, length}
+use Rattle.std.specs.List.{AllByRecursion}
 use Rattle.std.specs.Option.{ForSome}
 use Rattle.ap_host.specs.declared.host.Op.{Op}
 use Rattle.ap_host.specs.declared.inbox.InboxErr.{InboxErr}
@@ -12,7 +13,7 @@ use Rattle.hash_pool.specs.declared.fault.PoolFault.{PoolFault}
 use Rattle.hash_pool.specs.declared.fault.PoolFault.TheVariants as pool_faults
 use Rattle.hash_pool.specs.Names.{IsNamed, is_pooled, pool_name}
 use Rattle.hash_pool.specs.Growth.{PoolGrows}
-use Rattle.index_text.specs.Index.{IsAt}
+use Rattle.index_text.specs.Index.{IsAt, Lists}
 use Rattle.package_list.specs.declared.fault.ListFault.{ListFault}
 use Rattle.package_list.specs.declared.fault.ListFault.TheVariants as list_faults
 use Rattle.machine_state.specs.declared.limit.Limit.{Limit as LimitKind}
@@ -24,7 +25,7 @@ use Rattle.machine_state.specs.declared.arrived.Arrived.TheVariants as arrivals
 use Rattle.machine_state.specs.declared.arrived.UpdateFault.{UpdateFault}
 use Rattle.machine_state.specs.declared.arrived.UpdateFault.TheVariants as faults
 use Rattle.machine_state.specs.Values.{StateView}
-use Rattle.local_repo.specs.Arrival.{Arrives}
+use Rattle.local_repo.specs.Arrival.{Arrives, Entry, index_bytes, index_path}
 use Rattle.local_repo.specs.Fits.{FitsIn}
 use Rattle.local_repo.specs.Bodies.{HasBody, DigestsApart}
 
@@ -102,6 +103,23 @@ IsMalformed path text (faults.Refused refusal) = (line : ℕ) × IsAt text line 
 IsMalformed path text faults.OutOfMemory = Unit {0}
 IsMalformed path text faults.HostFault = ⊥
 IsMalformed path text faults.InboxFault = ⊥
+
+-- the index of a folder says this
+pub record IsListed (files : Files) (folder : Path) (entries : List Entry) : Type 0 where
+  pub bytes : List ℕ
+  pub there : index_bytes (index_path folder) (files (index_path folder)) ≡ Ok bytes
+  pub lists : Lists bytes entries
+
+-- the index of a folder isn't there or not readable, which is told
+abbrev pub IsUnlisted : Files → Path → UpdateFault → Type 0
+IsUnlisted files folder (faults.Refused refusal) =
+    (index_bytes (index_path folder) (files (index_path folder)) ≡ Err refusal)
+    ⊎ ((bytes : List ℕ) × (index_bytes (index_path folder) (files (index_path folder)) ≡ Ok bytes) × ((line : ℕ) × IsAt bytes line × (refusal ≡ InputMalformed (index_path folder) line)))
+IsUnlisted files folder fault = Unit {0}
+
+-- the paths are of at most 700 bytes
+abbrev pub AreShort : List Entry → Type 0
+AreShort entries = AllByRecursion (λ e. length e.1 ≤ 700) entries
 
 -- an error is what the steps come to
 abbrev pub FaultGives : {Y : Type 0} → UpdateFault → Result Y Refusal → Type 0

@@ -1,12 +1,13 @@
 -- What a list makes of a state to which it is added.
-use Rattle.std.specs.Prelude.{◌≡◌, ◌⊎◌, ◌≤◌, ℕ, List, [], ◌∷◌, Option, Some, None, map, bytes_eq, All, if◌then◌else◌}
+use Rattle.std.specs.Prelude.{◌≡◌, ◌⊎◌, ◌≤◌, ℕ, List, [], ◌∷◌, Option, Some, None, Ok, map, bytes_eq, All, if◌then◌else◌}
 use Rattle.std.specs.declared.cmp.Ordering.TheVariants.{Equal}
 use Rattle.digest_set.specs.declared.facts.Digests.{Digests}
 use Rattle.digest_set.specs.Difference.{difference}
 use Rattle.package_core.specs.Card.{Card, completed}
 use Rattle.package_core.specs.Order.{package_cmp}
 use Rattle.package_core.specs.Whole.{IsDigest, IsWhole}
-use Rattle.package_list.specs.Sorted.{equal_of}
+use Rattle.package_list.specs.Sorted.{equal_of, IsAscending}
+use Rattle.local_repo.specs.Arrival.{check_answer}
 use Rattle.package_list.specs.Lists.{union}
 use Rattle.machine_state.specs.declared.limit.Limit.TheVariants.{File}
 use Rattle.machine_state.specs.declared.repo.Repo.{Repo}
@@ -53,3 +54,10 @@ AreTaken known [] [] = Unit {0}
 AreTaken known (p ∷ ps) (q ∷ qs) = IsTaken known p q × AreTaken known ps qs
 AreTaken known [] (q ∷ qs) = ⊥
 AreTaken known (p ∷ ps) [] = ⊥
+
+-- The list came of packages in their order, and can be added to a repository's own and to what is known.
+pub record Fitting (known own list : List Card) : Type 0 where
+  pub joined : List Card
+  pub ascending : IsAscending package_cmp joined
+  pub taken : AreTaken known joined list
+  pub checked : check_answer known own list ≡ Ok tt

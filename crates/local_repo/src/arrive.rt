@@ -1,7 +1,7 @@
 //! A folder arrives.
 ghost use Rattle.std.specs.Prelude.{◌≡◌, ◌≤◌, ℕ, List, All, length, IsSome, IfOk, IfErr};
 ghost use Rattle.std.specs.BTreeMap.{get};
-ghost use Rattle.std.specs.Option.{ForSome};
+ghost use Rattle.std.specs.Option.{ForSome, option_copied};
 ghost use Rattle.std.specs.declared.cmp.Ordering.TheVariants.{Equal};
 ghost use Rattle.ap_text.specs.Paths.{below_folder};
 ghost use Rattle.ap_host.specs.Calls.{CauseOf};
@@ -10,24 +10,25 @@ ghost use Rattle.package_core.specs.Card.{IsPackage};
 ghost use Rattle.package_core.specs.Order.{package_cmp};
 ghost use Rattle.package_core.specs.Whole.{IsSaid};
 ghost use Rattle.package_list.specs.Sorted.{IsAscending};
+ghost use Rattle.index_text.specs.Index.{ArePackages};
 ghost use Rattle.machine_state.specs.declared.arrived.UpdateFault.TheVariants.{HostFault, InboxFault, OutOfMemory};
 ghost use Rattle.machine_state.specs.State.{IsCatalogue, Valid};
-ghost use Rattle.local_repo.specs.Arrival.{each_taken, known_of, taken};
-ghost use Rattle.local_repo.specs.Answers.{Comes, IfList, Gives, IsAnyFault, IsOwnFault, Adds, AddsAll, AddsOne};
+ghost use Rattle.local_repo.specs.Arrival.{each_taken, entries_arrive, known_of, list_in, taken};
+ghost use Rattle.local_repo.specs.Answers.{Comes, IfList, Gives, IsAnyFault, IsOwnFault, Adds, AddsAll, AddsOne, AreShort};
 ghost use Rattle.local_repo.specs.Bodies.{HasBody};
 ghost use Rattle.local_repo.specs.Files.{file_of, path_at};
-ghost use Rattle.local_repo.specs.Fits.{AreTaken, FitsIn, IsTaken};
+ghost use Rattle.local_repo.specs.Fits.{AreTaken, FitsIn, Fitting, IsTaken};
 
 use crate::body::take_one;
 use crate::by_package::ByPackage;
 use crate::fit::check;
-use crate::index::{path_below, path_of_index, read_entries, read_index};
+use crate::index::{path_below, read_folder};
 use crate::join::{Paths, join, split};
 use crate::known::{KnownFiles, known_files};
 use ap_host::{Host, Inbox};
 use ap_text::{Name, SafePath};
 use control_stanza::Text;
-use machine_state::{Arrived, State, UpdateFault};
+use machine_state::{Arrived, Repo, State, UpdateFault};
 use package_core::Package;
 use package_list::PackageList;
 use stage_file::Stage;
@@ -111,7 +112,53 @@ fn take_all<H: Host, I: Inbox>(
     Ok(PackageList::from_ascending(taken))
 }
 
-/// Takes in a folder of the inbox for a repository.
+/// Takes in the packages of an index: they are joined, their files are taken in, and it is looked whether they can be added.
+fn take_entries<H: Host, I: Inbox>(
+    alloc: Global,
+    host: &mut H,
+    stage: &mut Stage,
+    inbox: &mut I,
+    known: &PackageList,
+    repo: Option<&Repo>,
+    folder: &SafePath,
+    entries: Vec<(Package, SafePath)>,
+) -> Result<PackageList, UpdateFault>
+    ensures told { IsCatalogue known.now → length folder.now ≤ 200 → AreShort entries.items → ForSome (I.map inbox.old) (λ f. Gives result (entries_arrive f known.now (list_in (option_copied repo.entry)) folder.now entries.items)) }
+    ensures fits { IfOk result (λ list. IsCatalogue known.now → ArePackages entries.items → Fitting known.now (list_in (option_copied repo.entry)) list) }
+    ensures fault { IfErr result IsAnyFault }
+    ensures log { GoesOn (H.log host.old) (H.log host.new) (AddsAll (I.map inbox.old) known.now result stage.old stage.new) }
+    ensures map { I.map inbox.new ≡ I.map inbox.old }
+    ensures cause { CauseOf HostFault (H.faults host.old) (H.faults host.new) result }
+    ensures input { CauseOf InboxFault (I.faults inbox.old) (I.faults inbox.new) result }
+{
+    let (packages, paths) = split(alloc, entries)?;
+    let joined = join(alloc, &packages)?;
+    let list = take_all(alloc, host, stage, inbox, known, folder, &joined, &paths)?;
+    check(alloc, known, repo, &list)?;
+    Ok(list)
+}
+
+/// Takes in a folder of the inbox for a repository: the packages of its index `Packages`, each with the four facts of its file, whose
+/// body then stands in the pool. The state isn't changed, and no barrier is made.
+///
+/// The steps are made in this order, and the first that fails decides:
+///
+/// 1. The index is there, else `InputAbsent`, and has at most 134,217,728 bytes, else `Limit(Index)`.
+/// 2. It is made of stanzas, else `InputMalformed` at the first line that isn't so (Debian Policy 5.1).
+/// 3. Each is a binary stanza whose Pre-Depends, Depends, Recommends, Suggests and Provides can be read, else `InputMalformed` at the
+///    first line of the first that isn't (Debian Policy 5.3, 7.1, 7.5).
+/// 4. The packages are joined in their order, of equal ones the first stands: `Conflict` where one differs from an earlier one of its
+///    name, version and architecture, and `Limit(Packages)` at the 200,001st.
+/// 5. The files are taken in the order of packages, each at its path below the folder. A stated size has at most 268,435,456 bytes, else
+///    `Limit(File)`. Where a known package's file has the SHA-256, what is known of the first such has to agree with what is stated,
+///    and nothing is read. Else the file is there, else `InputAbsent`. What is stated of it is so, else `InputMismatch` with the first of
+///    size, SHA-256, SHA-1 and MD5 that differs. Where an equal package is known, that one stands.
+/// 6. Together with the repository's packages they hold no two of one name, version and architecture, else `Conflict`, and are at most
+///    200,000, else `Limit(Packages)`; together with the known ones they are at most 400,000, else `Limit(Known)`, and their texts have
+///    at most 1,073,741,824 bytes, else `Limit(Catalogue)`.
+///
+/// Pool files that were taken in before a refusal stay. `HostFault` and `InboxFault` come only where the host or the inbox failed. It
+/// is meant for a valid state and a folder of at most 200 bytes. Then it gives a list or a refusal, never `Nothing`.
 pub fn add<H: Host, I: Inbox>(
     alloc: Global,
     host: &mut H,
@@ -128,15 +175,9 @@ pub fn add<H: Host, I: Inbox>(
     ensures cause { CauseOf HostFault (H.faults host.old) (H.faults host.new) result }
     ensures input { CauseOf InboxFault (I.faults inbox.old) (I.faults inbox.new) result }
 {
-    let path = path_of_index(alloc, folder)?;
-    let bytes = read_index(alloc, inbox, &path)?;
-    let entries = read_entries(alloc, &path, bytes.as_slice())?;
-    let (packages, paths) = split(alloc, entries)?;
-    let joined = join(alloc, &packages)?;
-    let list = take_all(alloc, host, stage, inbox, &state.known, folder, &joined, &paths)?;
-    check(alloc, &state.known, state.repo(repo), &list)?;
-    Ok(Arrived::List {
-        list,
-        date: Text::new(alloc, "")?,
-    })
+    let date = Text::new(alloc, "")?;
+    let entries = read_folder(alloc, inbox, folder)?;
+    let own = state.repo(repo);
+    let list = take_entries(alloc, host, stage, inbox, &state.known, own, folder, entries)?;
+    Ok(Arrived::List { list, date })
 }

@@ -7,7 +7,7 @@ ghost use Rattle.hash_pool.specs.Reading.{IsReadTo};
 ghost use Rattle.index_text.specs.Index.{Lists, ArePackages};
 ghost use Rattle.machine_state.specs.declared.arrived.UpdateFault.TheVariants.{HostFault, InboxFault, OutOfMemory};
 ghost use Rattle.local_repo.specs.Arrival.{index_bytes, index_path};
-ghost use Rattle.local_repo.specs.Answers.{Gives, IsInputFault, IsOwnFault, IsNoRefusal, IsMalformed};
+ghost use Rattle.local_repo.specs.Answers.{AreShort, Gives, IsInputFault, IsListed, IsOwnFault, IsNoRefusal, IsMalformed, IsUnlisted};
 
 use crate::fault::{absent, differs, malformed, of_inbox, over};
 use ap_host::{Bytes, Inbox};
@@ -40,7 +40,7 @@ pub(crate) fn path_below(
 }
 
 /// The path of the index of a folder.
-pub(crate) fn path_of_index(alloc: Global, folder: &SafePath) -> Result<SafePath, UpdateFault>
+fn path_of_index(alloc: Global, folder: &SafePath) -> Result<SafePath, UpdateFault>
     ensures path { IfOk result (λ path. path ≡ index_path folder.now) }
     ensures short { length_of folder.now ≤ 200 → IfErr result (λ e. e ≡ OutOfMemory) }
     ensures fault { IfErr result IsOwnFault }
@@ -96,7 +96,7 @@ fn ends_early(alloc: Global, path: &SafePath, said: u64, found: u64) -> UpdateFa
 }
 
 /// The index at this path, whole, where it is there and not too long. It is read only then.
-pub(crate) fn read_index<I: Inbox>(
+fn read_index<I: Inbox>(
     alloc: Global,
     inbox: &mut I,
     path: &SafePath,
@@ -120,7 +120,7 @@ pub(crate) fn read_index<I: Inbox>(
 }
 
 /// The packages of an index, which stands at this path, and the paths of their files below its folder.
-pub(crate) fn read_entries(
+fn read_entries(
     alloc: Global,
     path: &SafePath,
     bytes: &[u8],
@@ -128,10 +128,29 @@ pub(crate) fn read_entries(
     ensures index { MatchResult result (λ v. Lists bytes.now v.items) (IsMalformed path.now bytes.now) }
     ensures fault { IfErr result IsOwnFault }
     ensures packages { IfOk result (λ v. ArePackages v.items) }
+    ensures short { IfOk result (λ v. AreShort v.items) }
 {
     match read_packages(alloc, bytes) {
         Ok(entries) => Ok(entries),
         Err(IndexFault::At { line }) => Err(malformed(alloc, path, line)),
         Err(IndexFault::OutOfMemory) => Err(UpdateFault::OutOfMemory),
     }
+}
+
+/// The packages of the index of a folder and the paths of their files below it.
+pub(crate) fn read_folder<I: Inbox>(
+    alloc: Global,
+    inbox: &mut I,
+    folder: &SafePath,
+) -> Result<Vec<(Package, SafePath)>, UpdateFault>
+    ensures told { length_of folder.now ≤ 200 → ForSome (I.map inbox.old) (λ f. MatchResult result (λ v. IsListed f folder.now v.items) (IsUnlisted f folder.now)) }
+    ensures packages { IfOk result (λ v. ArePackages v.items) }
+    ensures short { IfOk result (λ v. AreShort v.items) }
+    ensures fault { IfErr result IsInputFault }
+    ensures map { I.map inbox.new ≡ I.map inbox.old }
+    ensures cause { CauseOf InboxFault (I.faults inbox.old) (I.faults inbox.new) result }
+{
+    let path = path_of_index(alloc, folder)?;
+    let bytes = read_index(alloc, inbox, &path)?;
+    read_entries(alloc, &path, bytes.as_slice())
 }
