@@ -65,6 +65,14 @@ impl PackageList {
         let _ = &self.items;
     }
 
+    /// The list of these packages, which stand in their order, no two of them equal. They are shared.
+    pub fn from_ascending(packages: Vec<Rc<Package>>) -> PackageList
+        requires { IsAscending package_cmp (map rc_value packages.items) }
+        ensures { result ≡ map rc_value packages.items }
+    {
+        PackageList { items: packages }
+    }
+
     /// The packages joined in the order in which they stand; of equal ones the first stays. The first that can't join those
     /// before it decides the fault: `Conflict` where none of those is its equal and one of them has its triple; else `Full`
     /// where it would be the 200,001st member. It takes n log n comparisons, and moves each package once.
