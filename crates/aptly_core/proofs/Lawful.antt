@@ -19,14 +19,22 @@ use Rattle.package_list.specs.Lists.{union}
 use Rattle.local_repo.specs.Arrival.{list_of}
 use Rattle.local_repo.specs.Fits.{added}
 use Rattle.machine_step.specs.Step.{Came, Step, new_repo, refused, added_reply, taken_in, done, came_to}
+use Rattle.machine_step.proofs.LawLemmas.{Fit, Some_arrives, says_step, valid_step, total_step}
 use Rattle.aptly_core.specs.Machine.{machine, came, Steps}
+
+-- what arrives fits, and of each folder something arrives
+fits : Fit
+fits = ?
+
+arrives : Some_arrives
+arrives = ?
 
 -- an outcome as one of a run
 abbrev pub outcome_of : Came → Outcome StateView Refusal
 outcome_of o = record { reply = o.reply; refusal = o.refusal; state = o.state }
 
 pub says : (input : Option Files) (k : Option (List ℕ)) (s : StateView) (c : PlainCommand) (o : Outcome StateView Refusal) → Steps input k s c o → o.reply ≡ [] → ⊥
-says input k s c o step = ?
+says input k s c o step = says_step input k s c (came o) step
 
 -- a command that isn't refused may come to the same whatever a call tells
 not_refused : (j k : Option (List ℕ)) (texts : List (List ℕ)) (e : Option Refusal) → AfterNames j texts e None → AfterNames k texts e None
@@ -41,7 +49,7 @@ plain input j k s c o none step = go step.2.0 step.2.1 step.2.2
     go (Some r) w is = absurd (let no : None ≡ Some r = sym none ∙ ap (λ (x : Came). x.refusal) is in cc)
 
 pub keeps : (input : Option Files) (k : Option (List ℕ)) (s : StateView) (c : PlainCommand) (o : Outcome StateView Refusal) → Valid s → Steps input k s c o → Valid o.state
-keeps input k s c o valid step = ?
+keeps input k s c o valid step = valid_step fits input k s c (came o) valid step
 
 -- a refused command says the line of its refusal
 abbrev pub SaysIt : Came → Type 0
@@ -79,7 +87,7 @@ refused_says input k s c o r step is = subst SaysIt (sym step.2.2) (go step.2.0)
     go None = done_says s c step.0
 
 total : (input : Option Files) (k : Option (List ℕ)) (s : StateView) (c : PlainCommand) → Valid s → (o : Came) × Step input k s c o
-total input k s c valid = ?
+total input k s c valid = total_step arrives input k s c
 
 pub lawful : (input : Option Files) → Lawful (machine input)
 lawful input = record {
