@@ -260,7 +260,7 @@ short_folder s (repo_add n f) name folder is = go (early s (repo_add n f)) refl 
     go (Some x) e is = absurd (cc)
     go None e is =
         let same : f ≡ folder = ap path_in is in
-        subst (λ (x : List ℕ). length x ≤ 200) same (short_path f (none_before (bad_folder f) (unknown s n) (none_behind (bad_name n) (or_else (bad_folder f) (unknown s n)) e)))
+        subst (λ (x : List ℕ). length x ≤ 200) same (short_path f (none_before (bad_folder f) (unknown s.repos n) (none_behind (bad_name n) (or_else (bad_folder f) (unknown s.repos n)) e)))
 short_folder s c name folder is = absurd (cc)
 
 -- what arrived may arrive for the command

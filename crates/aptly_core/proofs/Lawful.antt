@@ -15,9 +15,19 @@ use Rattle.machine_state.specs.Values.{StateView}
 use Rattle.reply_text.specs.Refusals.{refusal_line}
 use Rattle.reply_text.specs.Replies as replies
 use Rattle.machine_step.specs.Early.{early, conditions, AfterNames, Refuses}
-use Rattle.machine_step.specs.Step.{Came, Step, new_repo, refused, created, taken_in, done, came_to}
-use Rattle.machine_step.proofs.LawLemmas.{says_step, valid_step, total_step}
+use Rattle.package_list.specs.Lists.{union}
+use Rattle.local_repo.specs.Arrival.{list_of}
+use Rattle.local_repo.specs.Fits.{added}
+use Rattle.machine_step.specs.Step.{Came, Step, new_repo, refused, added_reply, taken_in, done, came_to}
+use Rattle.machine_step.proofs.LawLemmas.{Fit, Some_arrives, says_step, valid_step, total_step}
 use Rattle.aptly_core.specs.Machine.{machine, came, Steps}
+
+-- what arrives fits, and of each folder something arrives
+fits : Fit
+fits = ?
+
+arrives : Some_arrives
+arrives = ?
 
 -- an outcome as one of a run
 abbrev pub outcome_of : Came → Outcome StateView Refusal
@@ -39,7 +49,7 @@ plain input j k s c o none step = go step.2.0 step.2.1 step.2.2
     go (Some r) w is = absurd (let no : None ≡ Some r = sym none ∙ ap (λ (x : Came). x.refusal) is in cc)
 
 pub keeps : (input : Option Files) (k : Option (List ℕ)) (s : StateView) (c : PlainCommand) (o : Outcome StateView Refusal) → Valid s → Steps input k s c o → Valid o.state
-keeps input k s c o valid step = valid_step ? input k s c (came o) valid step
+keeps input k s c o valid step = valid_step fits input k s c (came o) valid step
 
 -- a refused command says the line of its refusal
 abbrev pub SaysIt : Came → Type 0
@@ -57,16 +67,16 @@ done_says s (repo_create comment distribution component name) arrived = by_room 
   where
     by_room : (b : Bool) → SaysIt (if b then refused s (Limit Repos) else record { reply = replies.repo_created name; refusal = None; state = record s { repos = put repo_cmp (new_repo name) s.repos } })
     by_room true = line_of s (Limit Repos)
-    by_room false = no_line s _ _
+    by_room false = no_line s (replies.repo_created name) (record s { repos = put repo_cmp (new_repo name) s.repos })
 done_says s (repo_add name folder) arrived = by_arrived arrived
   where
     by_arrived : (a : Arrived) → SaysIt (taken_in s name a)
-    by_arrived (arrivals.List list date) = no_line s _ _
+    by_arrived (arrivals.List list date) = no_line s (added_reply name (list_of s name) (union (list_of s name) list)) (added s name list)
     by_arrived (arrivals.Refused refusal) = line_of s refusal
     by_arrived arrivals.Nothing = line_of s NotBuilt
-done_says s (repo_show packages name) arrived = no_line s _ _
-done_says s (package_search query) arrived = no_line s _ _
-done_says s (package_show query) arrived = no_line s _ _
+done_says s (repo_show packages name) arrived = no_line s _ s
+done_says s (package_search query) arrived = no_line s _ s
+done_says s (package_show query) arrived = no_line s _ s
 done_says s command arrived = line_of s NotBuilt
 
 pub refused_says : (input : Option Files) (k : Option (List ℕ)) (s : StateView) (c : PlainCommand) (o : Outcome StateView Refusal) (r : Refusal) → Steps input k s c o → o.refusal ≡ Some r → o.reply ≡ refusal_line r
@@ -77,7 +87,7 @@ refused_says input k s c o r step is = subst SaysIt (sym step.2.2) (go step.2.0)
     go None = done_says s c step.0
 
 total : (input : Option Files) (k : Option (List ℕ)) (s : StateView) (c : PlainCommand) → Valid s → (o : Came) × Step input k s c o
-total input k s c valid = total_step input k s c
+total input k s c valid = total_step arrives input k s c
 
 pub lawful : (input : Option Files) → Lawful (machine input)
 lawful input = record {
