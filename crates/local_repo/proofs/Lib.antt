@@ -10,4 +10,5 @@ pub mod ArrivalLemmas
 pub mod AddLemmas
 pub mod StanzaLemmas
 pub mod EntryLemmas
+pub mod TotalLemmas
 pub mod LawLemmas
