@@ -1,8 +1,8 @@
 -- The packages that the stanzas of an index describe.
-use Rattle.std.proofs.Common.{◌≡◌, ℕ, ◌*◌, ◌<◌, ◌^◌, Bool, true, false, not, cond, ◌&&◌, ◌||◌, ◌==◌, List, [], ◌∷◌, map, codes, length, Option, Some, None, is_none, is_some, unwrap_or, Result, Ok, Err, refl, sym, ap, ◌∙◌, subst, arith, nat_lt, ltb-true}
+use Rattle.std.proofs.Common.{◌≡◌, ℕ, ◌^◌, Bool, true, false, not, cond, ◌||◌, ◌==◌, List, [], ◌∷◌, map, codes, Option, Some, None, is_none, is_some, unwrap_or, Result, Ok, Err, refl, sym, ap, ◌∙◌, subst, arith, nat_lt, ltb-true}
 use Rattle.std.specs.Option.{IfSome, option_and_then, option_map, option_or}
 use Rattle.std.specs.Result.{result_ok}
-use Rattle.std.specs.List.{AllByRecursion, list_any, onto_first, slice_split}
+use Rattle.std.specs.List.{AllByRecursion, list_any, onto_first}
 use Rattle.std.specs.Str.Parse.{digits_value}
 use Rattle.std.proofs.lemmas.Bool.{and_parts, or_parts}
 use Rattle.hex.specs.declared.error.FromHexError.{FromHexError}
@@ -14,11 +14,10 @@ use Rattle.control_stanza.specs.Fields.{is_stanza, value_of, without_name}
 use Rattle.control_stanza.proofs.FieldLemmas.{stanza_without}
 use Rattle.package_core.specs.declared.fault.Required.{Required}
 use Rattle.package_core.specs.declared.fault.Required.TheVariants.{NameField, VersionField, ArchitectureField, FilenameField, SizeField, Sha256Field}
-use Rattle.package_core.specs.declared.fault.PackageFault.{PackageFault}
 use Rattle.package_core.specs.declared.fault.PackageFault.TheVariants.{Missing, BadNumber, BadDigest}
 use Rattle.package_core.specs.Fields.{digest, is_decimal, is_digest, is_number, is_other, last_of, last_segment, own_fields, text_in}
 use Rattle.package_core.specs.Faults.{bad_identity, bad_path, bad_said, fault_of, first_missing, has_other_digest}
-use Rattle.package_core.specs.Card.{IsPackage, card_of, path_in, said_in}
+use Rattle.package_core.specs.Card.{card_of, path_in, said_in}
 use Rattle.package_core.specs.Whole.{IsDigest, IsSaid}
 use Rattle.package_core.proofs.OwnLemmas.{six_gone}
 use Rattle.package_core.proofs.PackageLemmas.{package_is}

@@ -1,6 +1,5 @@
 -- The laws of arrivals.
-use Rattle.std.proofs.Common.{◌≡◌, ◌⊎◌, inl, inr, ℕ, ◌≤◌, Bool, true, false, cond, ◌||◌, List, [], ◌∷◌, map, length, Option, Some, None, Result, Ok, Err, refl, sym, ap, ◌∙◌, subst, arith, nat_lt, find, ltb-false, IsTrue, Equal}
-use Rattle.std.specs.Option.{IfSome}
+use Rattle.std.proofs.Common.{◌≡◌, ℕ, Bool, true, false, cond, List, [], ◌∷◌, map, Option, Some, None, Result, Ok, Err, refl, sym, ap, ◌∙◌, subst, nat_lt, ltb-false, IsTrue}
 use Rattle.std.specs.List.{All, AllByRecursion}
 use Rattle.std.specs.Str.{bytes_eq}
 use Rattle.ap_text.specs.Paths.{below_folder}
@@ -26,9 +25,9 @@ use Rattle.machine_state.specs.Limits.{limit_number}
 use Rattle.machine_state.specs.State.{IsCatalogue, IsKnown, IsNamedList, Valid, repo_cmp, repo_of}
 use Rattle.machine_state.specs.Values.{StateView}
 use Rattle.index_text.specs.Index.{ArePackages, Lists}
-use Rattle.local_repo.specs.Arrival.{Entry, Arrives, BytesArrive, IsIndex, agreed, and_then, cards_of, check_answer, compared, each_taken, entries_arrive, facts_of, fitting, index_arrives, index_bytes, index_path, known_of, list_in, list_of, of_file, of_known_or_file, or_refused, path_of, standing, taken}
+use Rattle.local_repo.specs.Arrival.{Entry, Arrives, BytesArrive, IsIndex, agreed, and_then, cards_of, check_answer, compared, each_taken, entries_arrive, facts_of, fitting, index_arrives, index_bytes, index_path, known_of, list_in, list_of, of_known_or_file, or_refused, path_of, standing, taken}
 use Rattle.local_repo.specs.Fits.{AreTaken, FitsIn, Fitting, IsTaken, added, with_more}
-use Rattle.local_repo.proofs.ListLemmas.{by_places, each_of, all_map, found_alike, found_equal, found_has, found_holds, has_found}
+use Rattle.local_repo.proofs.ListLemmas.{each_of, all_map, found_alike, found_equal, found_has, found_holds, has_found}
 use Rattle.local_repo.proofs.TakenLemmas.{AreDigests, find_holds, of_bytes, of_card, standing_taken, went_on}
 use Rattle.local_repo.proofs.ArrivalLemmas.{joined_ascending, joined_good, joined_is}
 use Rattle.local_repo.proofs.AddLemmas.{fitting_fits}
