@@ -9,4 +9,6 @@ pub mod TextLemmas
 pub mod ArrivalLemmas
 pub mod AddLemmas
 pub mod StanzaLemmas
+pub mod EntryLemmas
+pub mod TotalLemmas
 pub mod LawLemmas

@@ -1,16 +1,15 @@
 -- What is read of a text of stanzas are stanzas.
-use Rattle.std.proofs.Common.{◌≡◌, ◌⊎◌, inl, inr, ℕ, zero, suc, ◌+◌, ◌-◌, ◌<◌, ◌≤◌, Bool, true, false, cond, not, ◌&&◌, List, [], ◌∷◌, ◌++◌, length, take, drop, get_or, Option, None, Some, Result, Ok, Err, refl, sym, ap, ◌∙◌, subst, arith, length-append, append_assoc, ◌==◌, nat_lt, ltb-true, IsTrue, IsFalse, true≢false}
-use Rattle.std.proofs.lemmas.Bool.{and_parts, and_from}
-use Rattle.std.proofs.lemmas.List.{take-append-le}
-use Rattle.std.proofs.lemmas.Str.{IsUtf8-between, IsUtf8-take, IsUtf8-from_ascii, IsUtf8-from_is_utf8, is_utf8-from_IsUtf8, IsCharBoundary-from_take, IsCharBoundary-at_seam}
+use Rattle.std.proofs.Common.{◌≡◌, ℕ, zero, suc, ◌+◌, ◌-◌, ◌<◌, Bool, true, false, not, List, [], ◌∷◌, ◌++◌, map, length, append-nil, take, drop, Option, refl, sym, ap, ◌∙◌, subst, arith, length-append, append_assoc, ◌==◌, nat_lt, ltb-true}
+use Rattle.std.proofs.lemmas.Bool.{and_parts, and_from, or_parts, not_from_false}
+use Rattle.std.proofs.lemmas.Str.{IsUtf8-between, IsUtf8-from_ascii, IsUtf8-from_is_utf8, is_utf8-from_IsUtf8, IsCharBoundary-from_take, IsCharBoundary-at_seam}
 use Rattle.std.specs.Prelude.{nat_le}
-use Rattle.std.specs.List.{list_all, AllByRecursion}
+use Rattle.std.specs.List.{list_all, list_any, AllByRecursion}
 use Rattle.std.specs.Str.{IsUtf8, IsAscii, is_utf8}
 use Rattle.control_stanza.specs.declared.stanza.Field.{Field}
 use Rattle.control_stanza.specs.Lines.{bare, is_blank, is_field_name, is_name_byte, has_return, has_line_end}
 use Rattle.control_stanza.specs.Fields.{is_value, is_field, are_distinct, is_stanza}
 use Rattle.control_stanza.specs.Spelled.{Begins, GoesOn, SpellsMore, SpellsField, Spells, IsDistinct, Stanzas}
-use Rattle.control_stanza.proofs.FieldLemmas.{value_first, value_more}
+use Rattle.control_stanza.proofs.FieldLemmas.{any_parts, value_first, value_more}
 use Rattle.control_stanza.proofs.LineLemmas.{blank_small, bare_one_line}
 
 -- ---- parts of a line are UTF-8
@@ -39,8 +38,11 @@ name_byte_small c h =
 
 name_ascii : (name : List ℕ) → is_field_name name ≡ true → IsAscii name
 unfolding is_field_name
-name_ascii [] h zero = omega arith
-name_ascii [] h (suc i) = omega arith
+name_ascii [] h = none
+  where
+    none : IsAscii []
+    none zero = omega arith
+    none (suc i) = omega arith
 name_ascii (c ∷ cs) h = ascii_all is_name_byte name_byte_small (c ∷ cs) (and_parts _ (list_all is_name_byte (c ∷ cs)) h).1
 
 front_is : (xs ys : List ℕ) → take (length xs) (xs ++ ys) ≡ xs
@@ -57,7 +59,7 @@ between line pre value after e a b u =
     let front : take (length pre) line ≡ pre = ap (take (length pre)) e ∙ front_is pre (value ++ after) in
     let size : length line ≡ length pre + length (value ++ after) = ap length e ∙ length-append pre (value ++ after) in
     let more : length (value ++ after) ≡ length value + length after = length-append value after in
-    let start = IsCharBoundary-from_take line (length pre) (omega arith) u (subst IsUtf8 (sym front) (IsUtf8-from_ascii pre a)) in
+    let start = IsCharBoundary-from_take line (length pre) u (omega (arith, size)) (subst IsUtf8 (sym front) (IsUtf8-from_ascii pre a)) in
     let seam = IsCharBoundary-at_seam line (pre ++ value) after (e ∙ sym (append_assoc pre value after)) (IsUtf8-from_ascii after b) in
     let cut = IsUtf8-between line (length pre) (length (pre ++ value)) u (omega (arith, length-append pre value)) start seam in
     let count : length (pre ++ value) - length pre ≡ length value = omega (arith, length-append pre value) in
