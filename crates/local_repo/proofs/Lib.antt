@@ -6,3 +6,5 @@ pub mod MapLemmas
 pub mod IndexLemmas
 pub mod LogLemmas
 pub mod TextLemmas
+pub mod ArrivalLemmas
+pub mod AddLemmas

@@ -1,5 +1,5 @@
 //! The packages of an index, joined.
-ghost use Rattle.std.specs.Prelude.{◌≡◌, IfOk, OnOk, map};
+ghost use Rattle.std.specs.Prelude.{◌≡◌, IfOk, IfErr, OnOk, map};
 ghost use Rattle.std.specs.BTreeMap.{get};
 ghost use Rattle.std.specs.Rc.{rc_value};
 ghost use Rattle.machine_state.specs.declared.limit.Limit.TheVariants.{Packages};
@@ -7,7 +7,7 @@ ghost use Rattle.package_core.specs.Card.{Card};
 ghost use Rattle.package_core.specs.Order.{package_cmp};
 ghost use Rattle.package_list.specs.Answers.{join_answer};
 ghost use Rattle.local_repo.specs.Arrival.{cards_of, entry_for, or_refused, path_in};
-ghost use Rattle.local_repo.specs.Answers.{Gives};
+ghost use Rattle.local_repo.specs.Answers.{Gives, IsOwnFault};
 
 use crate::by_package::ByPackage;
 use crate::fault::of_list;
@@ -54,6 +54,7 @@ pub(crate) fn split(
 /// The packages of an index, joined in its order.
 pub(crate) fn join(alloc: Global, packages: &[Rc<Package>]) -> Result<PackageList, UpdateFault>
     ensures answer { Gives result (or_refused Packages (join_answer (map rc_value packages.now))) }
+    ensures fault { IfErr result IsOwnFault }
 {
     match PackageList::from_shared(alloc, packages) {
         Ok(list) => Ok(list),

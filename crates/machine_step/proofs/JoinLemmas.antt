@@ -1,23 +1,21 @@
 -- Lists that are joined, and repositories with more.
-use Rattle.std.proofs.Common.{◌≡◌, ◌≢◌, ℕ, zero, suc, ◌<◌, ◌≤◌, ◌-◌, List, [], ◌∷◌, length, map, find, get_or, Option, Some, None, Bool, true, false, ◌||◌, All, IsTrue, option_map, subst, refl, sym, ap, ◌∙◌, arith, Ordering, Less, Equal, Greater}
+use Rattle.std.proofs.Common.{◌≡◌, ◌≢◌, ℕ, zero, suc, ◌<◌, ◌≤◌, ◌-◌, List, [], ◌∷◌, length, map, get_or, Option, Some, None, Bool, true, false, ◌||◌, All, IsTrue, subst, refl, sym, ap, ◌∙◌, arith, Ordering, Less, Equal, Greater}
 use Rattle.std.specs.Ordering.{is_eq}
 use Rattle.std.proofs.lemmas.List.{get_or-map, length-map}
 use Rattle.std.specs.Str.{bytes_eq}
 use Rattle.std.specs.Bool.{if◌then◌else◌}
 use Rattle.std.specs.Cmp.{IsTotalOrder}
 use Rattle.package_core.specs.Card.{Card}
-use Rattle.package_core.specs.Order.{package_cmp}
 use Rattle.package_core.proofs.OrderLaws.{package_total}
 use Rattle.package_list.specs.Sorted.{placed, put, union, has, IsAscending}
 use Rattle.package_list.specs.Lists as lists
-use Rattle.package_list.proofs.SortedLemmas.{put_ascending, put_has}
+use Rattle.package_list.proofs.SortedLemmas.{put_has}
 use Rattle.machine_state.specs.declared.repo.Repo.{Repo}
 use Rattle.machine_state.specs.State.{Valid, IsNamedList, repo_of}
 use Rattle.machine_state.specs.Values.{StateView}
 use Rattle.local_repo.specs.Arrival.{list_in, list_of}
 use Rattle.local_repo.specs.Fits.{FitsIn, with_more, added}
 use Rattle.reply_text.specs.Replies as replies
-use Rattle.machine_state.specs.declared.arrived.Arrived.{Arrived}
 use Rattle.machine_state.specs.declared.arrived.Arrived.TheVariants as arrivals
 use Rattle.machine_step.specs.Step.{Came, added_reply, taken_in, told}
 

@@ -1,6 +1,6 @@
 -- Laws of what commands come to.
-use Rattle.std.proofs.Common.{◌≡◌, ◌≢◌, ℕ, zero, suc, ◌<◌, ◌≤◌, List, [], ◌∷◌, ◌++◌, ◌+◌, length, append_assoc, append-nil, ◌⊎◌, Option, Some, None, Bool, true, false, All, IsTrue, IsSome, Result, Ok, Err, subst, refl, sym, ap, ◌∙◌, arith, rules, inl, inr, Ordering, Less, Equal, Greater}
-use Rattle.std.specs.Option.{is_some, IfSome, IsSomeAnd}
+use Rattle.std.proofs.Common.{◌≡◌, ◌≢◌, ℕ, zero, suc, ◌<◌, ◌≤◌, List, [], ◌∷◌, ◌++◌, ◌+◌, length, append_assoc, append-nil, ◌⊎◌, Option, Some, None, Bool, true, false, All, IsSome, Result, Ok, Err, subst, refl, sym, ap, arith, rules, inl, inr, Ordering, Less, Equal, Greater}
+use Rattle.std.specs.Option.{IfSome, IsSomeAnd}
 use Rattle.std.specs.Bool.{nat_le, if◌then◌else◌}
 use Rattle.std.proofs.lemmas.List.{length-append}
 use Rattle.std.proofs.lemmas.Bool.{cases_lt, false≢true}
@@ -8,33 +8,32 @@ use Rattle.std.specs.Str.{chars}
 use Rattle.ap_text.specs.Names.{is_name}
 use Rattle.ap_host.specs.Disk.{Files}
 use Rattle.package_core.specs.Card.{Card}
-use Rattle.package_list.specs.Lists.{union}
 use Rattle.regex.specs.Patterns.{Re, default_config}
 use Rattle.regex_syntax.specs.Brackets.{Nested}
 use Rattle.regex_syntax.specs.Grammar.{Names, read}
 use Rattle.query_eval.specs.Build.{IsNoPattern}
-use Rattle.query_eval.specs.Conditions.{IsPattern, IsCondition}
+use Rattle.query_eval.specs.Conditions.{IsPattern}
 use Rattle.command_words.specs.Plain.{PlainCommand, repo_create, repo_add, repo_show, package_search, package_show}
 use Rattle.machine_state.specs.declared.limit.Limit.TheVariants as limits
 use Rattle.machine_state.specs.declared.refusal.Refusal.{Refusal}
-use Rattle.machine_state.specs.declared.refusal.Refusal.TheVariants.{NotBuilt, BadName, BadPattern, PatternTooLarge, InputAbsent, Limit}
+use Rattle.machine_state.specs.declared.refusal.Refusal.TheVariants.{NotBuilt, BadName, BadPattern, InputAbsent, Limit}
 use Rattle.machine_state.specs.declared.repo.Repo.{Repo}
 use Rattle.machine_state.specs.declared.arrived.Arrived.{Arrived}
 use Rattle.machine_state.specs.declared.arrived.Arrived.TheVariants as arrivals
-use Rattle.machine_state.specs.Ascending.{IsAscending, put, placed}
-use Rattle.machine_state.specs.State.{Valid, IsRepo, IsNamedList, repo_cmp, repo_of}
+use Rattle.machine_state.specs.Ascending.{put, placed}
+use Rattle.machine_state.specs.State.{Valid, IsRepo, IsNamedList, repo_cmp}
 use Rattle.machine_state.specs.Values.{StateView}
 use Rattle.machine_state.proofs.AscendingLemmas.{put_ascending}
 use Rattle.machine_state.proofs.RepoLemmas.{repo_total}
 use Rattle.reply_text.specs.Words.{line}
 use Rattle.reply_text.specs.Refusals.{refusal_line}
 use Rattle.reply_text.specs.Replies as replies
-use Rattle.local_repo.specs.Arrival.{Arrives, list_of}
+use Rattle.local_repo.specs.Arrival.{Arrives}
 use Rattle.local_repo.specs.Answers.{IsArrival}
-use Rattle.local_repo.specs.Fits.{FitsIn, added}
-use Rattle.machine_step.specs.Queries.{IsPick, query_of, found_by}
+use Rattle.local_repo.specs.Fits.{FitsIn}
+use Rattle.machine_step.specs.Queries.{IsPick}
 use Rattle.machine_step.specs.Early.{AfterNames, early, conditions, Refuses, folder_read, or_else, bad_name, taken, flagged}
-use Rattle.machine_step.specs.Step.{Came, new_repo, refused, told, created, taken_in, done, came_to, MayArriveFor, MayArrive, StepWith, Step}
+use Rattle.machine_step.specs.Step.{Came, new_repo, refused, told, created, taken_in, done, came_to, MayArriveFor, MayArrive, Step}
 
 -- every reply is some bytes
 pub line_some : (text : List ℕ) → line text ≢ []

@@ -2,7 +2,6 @@
 use Rattle.std.proofs.Common.{◌≡◌, ℕ, ◌<◌, ◌≤◌, List, length, Option, Some, None, Result, Ok, Err, Bool, true, false, subst, refl, sym, ap, ◌∙◌, arith, rules, ◌⊎◌, inl, inr}
 use Rattle.std.specs.Bool.{nat_lt, if◌then◌else◌}
 use Rattle.query_grammar.specs.declared.fault.QueryKind.{QueryKind}
-use Rattle.query_grammar.specs.declared.fault.QueryFault.{QueryFault}
 use Rattle.query_grammar.specs.declared.fault.QueryFault.TheVariants.{At}
 use Rattle.query_grammar.specs.Tree.{Tree}
 use Rattle.query_grammar.specs.Grammar.{QueryText}

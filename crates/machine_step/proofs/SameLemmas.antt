@@ -1,5 +1,5 @@
 -- Adding what is there already.
-use Rattle.std.proofs.Common.{◌≡◌, ℕ, zero, suc, ◌<◌, List, [], ◌∷◌, length, map, Option, Some, None, Bool, true, false, ◌||◌, All, IsTrue, subst, refl, sym, ap, ◌∙◌, arith, Ordering, Less, Equal, Greater}
+use Rattle.std.proofs.Common.{◌≡◌, ℕ, suc, List, [], ◌∷◌, map, Option, Some, Bool, true, false, ◌||◌, All, IsTrue, subst, refl, sym, ap, ◌∙◌, arith, Ordering, Less, Equal, Greater}
 use Rattle.std.specs.Ordering.{is_eq, ordering_reverse}
 use Rattle.std.specs.Str.{bytes_eq}
 use Rattle.std.specs.Bool.{if◌then◌else◌}
@@ -9,7 +9,7 @@ use Rattle.std.proofs.lemmas.Map.Text.{is_eq-slice_cmp}
 use Rattle.package_core.specs.Card.{Card}
 use Rattle.package_core.specs.Order.{package_cmp}
 use Rattle.package_core.proofs.OrderLaws.{package_total}
-use Rattle.package_list.specs.Sorted.{put, union, has, equal_of}
+use Rattle.package_list.specs.Sorted.{union, has, equal_of}
 use Rattle.package_list.specs.Sorted as sorted
 use Rattle.package_list.specs.Lists as lists
 use Rattle.package_list.proofs.SortedLemmas.{put_has}

@@ -1,8 +1,7 @@
 -- What a command comes to, by how it goes.
-use Rattle.std.proofs.Common.{◌≡◌, ℕ, ◌<◌, ◌≤◌, List, [], length, insert, Option, Some, None, Bool, true, false, unwrap_or, rules, IsTrue, All, Result, Ok, Err, sym, subst, refl, ap, ◌∙◌, arith}
+use Rattle.std.proofs.Common.{◌≡◌, ℕ, ◌<◌, ◌≤◌, List, [], length, insert, Option, Some, None, Bool, true, false, unwrap_or, rules, IsTrue, Result, Ok, Err, sym, subst, refl, ap, ◌∙◌, arith}
 use Rattle.std.specs.Result.{IfOk, IfErr, IsErrAnd}
 use Rattle.std.specs.Option.{is_some}
-use Rattle.query_eval.specs.Conditions.{IsPattern}
 use Rattle.std.specs.Bool.{nat_le, if◌then◌else◌}
 use Rattle.std.proofs.lemmas.List.Edits.{length-insert}
 use Rattle.command_words.specs.declared.command.Command.{Command}
@@ -23,7 +22,7 @@ use Rattle.machine_state.specs.declared.refusal.Refusal.TheVariants.{NotBuilt, E
 use Rattle.machine_state.specs.declared.repo.Repo.{Repo}
 use Rattle.machine_state.specs.State.{repo_cmp, repo_of}
 use Rattle.machine_step.specs.Early.{AfterNames, early, conditions, Refuses, or_else, bad_name, bad_folder, taken, unknown}
-use Rattle.machine_step.specs.Answers.{FaultIs, IsFirst, IsNew, IsTold, Told, changed}
+use Rattle.machine_step.specs.Answers.{FaultIs, IsFirst, IsNew, Told, changed}
 use Rattle.machine_step.specs.Step.{Came, new_repo, refused, told, taken_in, done, StepWith}
 
 -- no pattern is asked for

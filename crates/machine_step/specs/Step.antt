@@ -1,5 +1,5 @@
 -- One step of the machine: what a command comes to in a state.
-use Rattle.std.specs.Prelude.{◌≡◌, ℕ, ◌-◌, Bool, false, List, [], Option, Some, None, nat_le, length, codes, unwrap_or, if◌then◌else◌}
+use Rattle.std.specs.Prelude.{◌≡◌, ℕ, ◌-◌, false, List, [], Option, Some, None, nat_le, length, codes, unwrap_or, if◌then◌else◌}
 use Rattle.ap_host.specs.Disk.{Files}
 use Rattle.package_core.specs.Card.{Card}
 use Rattle.package_list.specs.Lists.{union}

@@ -1,7 +1,7 @@
 -- An expression finds what the grammar reads in its text.
-use Rattle.std.proofs.Common.{◌≡◌, ℕ, ◌<◌, ◌≤◌, true, List, get_or, length, Option, Some, None, IsSomeAnd, is_some, subst, sym, ◌∙◌}
+use Rattle.std.proofs.Common.{◌≡◌, ℕ, ◌<◌, ◌≤◌, true, List, get_or, length, Option, Some, None, IsSomeAnd, is_some}
 use Rattle.std.specs.Str.{chars}
-use Rattle.regex.specs.Patterns.{Re, find_str, default_config, SameCaptures, Config, Reads}
+use Rattle.regex.specs.Patterns.{Re, find_str, default_config, SameCaptures, Reads}
 use Rattle.regex.specs.Strings.{regex_pattern, regex_source, regex_config, regex_names, IsReadFromSource}
 use Rattle.regex.specs.declared.string.regex.Regex.{Regex}
 use Rattle.regex.proofs.ForCallers.{is_match_alike}

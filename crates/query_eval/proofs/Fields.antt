@@ -1,5 +1,5 @@
 -- Values of fields by name.
-use Rattle.std.proofs.Common.{◌≡◌, ℕ, Bool, List, codes, Option, Some, Result, IfOk, Ok, Err, refl, sym, ap, subst, ◌∙◌}
+use Rattle.std.proofs.Common.{◌≡◌, ℕ, Bool, List, codes, Some, Result, IfOk, Ok, Err, sym, ap, subst, ◌∙◌}
 use Rattle.std.proofs.lemmas.Option.{same_Some}
 use Rattle.deb_version.specs.declared.order.Relation.{Relation}
 use Rattle.package_core.specs.Card.{Card}

@@ -1,5 +1,5 @@
 -- How the preparing of one condition after another adds up.
-use Rattle.std.proofs.Common.{◌≡◌, ℕ, ◌+◌, ◌≤◌, List, [], ◌∷◌, ◌++◌, length, All, Option, Some, Result, Ok, Err, inl, inr, ⊎_elim, refl, sym, ap, subst, ◌∙◌, arith, append_assoc, append-nil, length-append, map, take, drop, get_or, ◌<◌, add-one}
+use Rattle.std.proofs.Common.{◌≡◌, ℕ, ◌+◌, ◌≤◌, List, [], ◌∷◌, ◌++◌, length, All, Option, Some, Ok, Err, inl, inr, refl, sym, ap, ◌∙◌, arith, append_assoc, append-nil, length-append, map, take, drop, get_or, ◌<◌, add-one}
 use Rattle.std.proofs.lemmas.List.{map-append, take_more}
 use Rattle.std.proofs.Math.Seq.{drop-cons}
 use Rattle.std.proofs.lemmas.List.Elements.{All-nil, All-append, All-same}
@@ -10,7 +10,7 @@ use Rattle.query_grammar.specs.Tree.{plain, plains, listed}
 use Rattle.query_eval.specs.declared.node.Node.{Node}
 use Rattle.query_eval.specs.Preparing.{node_tree}
 use Rattle.query_eval.specs.Build.{IsNoPattern, Rose}
-use Rattle.query_eval.specs.Conditions.{patterns_of, patterns_in, IsPattern, IsCondition, IsRefused, KeepsRefused, Prepares}
+use Rattle.query_eval.specs.Conditions.{patterns_of, patterns_in, IsPattern, IsCondition, Prepares}
 
 only_condition : (before number : ℕ) (text : List ℕ) → number ≡ before + 1 → IsCondition before (text ∷ []) number text
 only_condition before number text e = record { earlier = []; later = []; split = refl; number_is = omega arith; read = All-nil IsPattern }

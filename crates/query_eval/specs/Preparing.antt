@@ -1,5 +1,5 @@
 -- What the prepared form of a query stands for.
-use Rattle.std.specs.Prelude.{ℕ, List, Option, Some, None}
+use Rattle.std.specs.Prelude.{ℕ, List}
 use Rattle.std.specs.Option.{option_map}
 use Rattle.query_grammar.specs.declared.query.Test.{Test}
 use Rattle.query_grammar.specs.declared.query.Test.TheVariants as test

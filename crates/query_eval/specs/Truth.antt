@@ -1,5 +1,5 @@
 -- When a query is true of a package (aptly manual, package query syntax).
-use Rattle.std.specs.Prelude.{ℕ, Bool, true, false, not, ◌&&◌, ◌||◌, bytes_eq, List, [], ◌∷◌, length, nat_lt, codes, Option, Some, None, is_some, if◌then◌else◌}
+use Rattle.std.specs.Prelude.{ℕ, Bool, true, false, not, ◌&&◌, ◌||◌, bytes_eq, List, length, nat_lt, codes, Option, Some, None, is_some, if◌then◌else◌}
 use Rattle.std.specs.declared.cmp.Ordering.{Ordering}
 use Rattle.std.specs.Ordering.{nat_cmp, is_lt, is_le, is_eq, is_ge, is_gt}
 use Rattle.std.specs.Cmp.Lexicographic.{slice_cmp}

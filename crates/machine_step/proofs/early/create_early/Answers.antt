@@ -1,9 +1,7 @@
 use Rattle.std.proofs.Common.{ap, ◌∙◌, subst, sym}
-use Rattle.command_words.specs.Plain.{repo_create}
 use Rattle.machine_state.specs.Ascending.{IsAscending}
 use Rattle.machine_state.specs.State.{repo_cmp}
 use Rattle.machine_state.specs.Values.{StateView}
-use Rattle.machine_step.specs.Answers.{IsFirst}
 use Rattle.machine_step.specs.Early.{early, flagged, bad_name, taken}
 use Rattle.machine_step.proofs.StepLemmas.{at_exit, second_decides, taken_along}
 use Rattle.machine_step.proofs.early.create_early.Goals as goal

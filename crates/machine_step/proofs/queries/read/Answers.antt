@@ -1,4 +1,4 @@
-use Rattle.std.proofs.Common.{◌≡◌, ◌∙◌, ◌≤◌, List, ℕ, length, sym, subst}
+use Rattle.std.proofs.Common.{◌≤◌, List, ℕ, length, subst}
 use Rattle.query_grammar.specs.declared.fault.QueryFault.{QueryFault}
 use Rattle.query_grammar.specs.declared.fault.QueryFault.TheVariants.{At}
 use Rattle.query_grammar.specs.Tree.{plain}

@@ -1,4 +1,4 @@
-use Rattle.std.proofs.Common.{ap, sym, ◌∙◌, ◌≡◌, List, ℕ, IsTrue, subst}
+use Rattle.std.proofs.Common.{ap, sym, ◌∙◌, List, ℕ, IsTrue, subst}
 use Rattle.std.specs.Option.{is_some}
 use Rattle.std.proofs.lemmas.Result.{IfOk-weaker}
 use Rattle.command_words.specs.Plain.{repo_add}

@@ -1,9 +1,9 @@
-use Rattle.std.proofs.Common.{◌≡◌, ◌+◌, ◌++◌, ◌∙◌, map, drop, ap, subst, arith, Err}
+use Rattle.std.proofs.Common.{◌+◌, map, drop, ap}
 use Rattle.std.proofs.lemmas.Result.{err_from_is_err_and}
 use Rattle.query_grammar.specs.Tree.{plain, plains, listed}
-use Rattle.query_eval.specs.Conditions.{patterns_of, patterns_in, Prepares}
+use Rattle.query_eval.specs.Conditions.{patterns_of, patterns_in}
 use Rattle.query_eval.specs.Preparing.{node_tree}
-use Rattle.query_eval.proofs.Preparing.{Done, done_none, done_more, done_refused, patterns_next, nodes_next}
+use Rattle.query_eval.proofs.Preparing.{done_none, done_more, done_refused, patterns_next, nodes_next}
 use Rattle.query_eval.proofs.prepare.+prepare.Goals as goal
 
 pub prepare_all-loop-query-init : goal.prepare_all-loop-query-init

@@ -1,4 +1,4 @@
-use Rattle.std.proofs.Common.{refl, ⊎_elim, ◌≡◌}
+use Rattle.std.proofs.Common.{refl, ⊎_elim}
 use Rattle.query_eval.proofs.Preparing.{bad_one, large_one}
 use Rattle.query_eval.proofs.prepare.expression.Goals as goal
 

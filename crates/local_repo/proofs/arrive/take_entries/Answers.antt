@@ -1,0 +1,108 @@
+use Rattle.std.proofs.Common.{◌≡◌, List, Ok, Err, Some, map, refl, sym, ap, ◌∙◌, subst, All, IsSome, length, Result}
+use Rattle.std.proofs.lemmas.Result.{err_from_is_err_and}
+use Rattle.std.specs.Option.{option_copied}
+use Rattle.std.specs.Rc.{rc_value}
+use Rattle.std.specs.BTreeMap.{get}
+use Rattle.ap_host.proofs.ChangeLemmas.{GoesOn-map, GoesOn-none}
+use Rattle.std.specs.List.{AllByRecursion}
+use Rattle.package_core.specs.Card.{Card, IsPackage}
+use Rattle.package_core.specs.Whole.{IsSaid}
+use Rattle.machine_state.specs.declared.refusal.Refusal.{Refusal}
+use Rattle.package_core.specs.Order.{package_cmp}
+use Rattle.package_list.specs.Sorted.{IsAscending}
+use Rattle.package_list.specs.Answers.{join_answer}
+use Rattle.package_list.specs.Lists.{joined}
+use Rattle.machine_state.specs.declared.limit.Limit.TheVariants.{Packages}
+use Rattle.machine_state.specs.declared.arrived.UpdateFault.{UpdateFault}
+use Rattle.local_repo.specs.Arrival.{cards_of, entries_arrive, list_in, or_refused}
+use Rattle.local_repo.specs.Answers.{FaultGives}
+use Rattle.local_repo.proofs.ArrivalLemmas.{There, joined_is, joined_ascending, joined_good, joined_paths, paths_there, paths_short, same_steps, join_fault, take_fault, check_fault, all_ok, told_err}
+use Rattle.local_repo.proofs.LogLemmas.{all_nothing, all_fails}
+use Rattle.local_repo.proofs.arrive.take_entries.Goals as goal
+
+pub returns-in_err-packages-clause-log : goal.returns-in_err-packages-clause-log
+returns-in_err-packages-clause-log g c = GoesOn-none _ _ _ refl (λ l. all_nothing _ _ c.from_residual.result _ l c.from_residual.ensures.0)
+
+pub returns-in_err-joined-clause-log : goal.returns-in_err-joined-clause-log
+returns-in_err-joined-clause-log g c = GoesOn-none _ _ _ refl (λ l. all_nothing _ _ c.from_residual-in_err-joined.result _ l c.from_residual-in_err-joined.ensures.0)
+
+pub returns-in_err-joined-clause-told : goal.returns-in_err-joined-clause-told
+returns-in_err-joined-clause-told g c catalogue small short f told =
+    let e = err_from_is_err_and c.from_residual-in_err-joined.result c.from_residual-in_err-joined.ensures.1 in
+    let entries = c.args.entries.items in
+    let cards : map rc_value c.deref.result.now ≡ cards_of entries = ap (map rc_value) c.deref.ensures.value ∙ c.in_ok-packages.ensures.packages in
+    let fault : FaultGives c.in_err-joined.field-0.0 (or_refused Packages (join_answer (cards_of entries))) = subst (λ (xs : List Card). FaultGives c.in_err-joined.field-0.0 (or_refused Packages (join_answer xs))) cards c.in_err-joined.ensures.answer in
+    let is = join_fault f c.args.known.now (list_in (option_copied c.args.repo)) c.args.folder.now entries c.in_err-joined.field-0.0 fault in
+    told_err c.from_residual-in_err-joined.result e.0 c.in_err-joined.field-0.0 (entries_arrive f c.args.known.now (list_in (option_copied c.args.repo)) c.args.folder.now entries) e.1 e.2 is
+
+pub take_all-requires-clause-paths : goal.take_all-requires-clause-paths
+take_all-requires-clause-paths g c =
+    let entries = c.args.entries.items in
+    let cards : map rc_value c.deref.result.now ≡ cards_of entries = ap (map rc_value) c.deref.ensures.value ∙ c.in_ok-packages.ensures.packages in
+    let joins : or_refused Packages (join_answer (cards_of entries)) ≡ Ok c.in_ok-joined.joined = ap (λ xs. or_refused Packages (join_answer xs)) (sym cards) ∙ c.in_ok-joined.ensures.answer in
+    let is = joined_is Packages (cards_of entries) c.in_ok-joined.joined joins in
+    paths_there c.in_ok-packages.paths entries c.in_ok-joined.joined c.in_ok-packages.ensures.paths (subst (AllByRecursion (There entries)) (sym is) (joined_paths entries))
+
+pub returns-in_err-list-clause-told : goal.returns-in_err-list-clause-told
+returns-in_err-list-clause-told g c catalogue small short f told =
+    let e = err_from_is_err_and c.from_residual-in_err-list.result c.from_residual-in_err-list.ensures.1 in
+    let entries = c.args.entries.items in
+    let known = c.args.known.now in
+    let folder = c.args.folder.now in
+    let ps = c.in_ok-joined.joined in
+    let paths = c.in_ok-packages.paths in
+    let cards : map rc_value c.deref.result.now ≡ cards_of entries = ap (map rc_value) c.deref.ensures.value ∙ c.in_ok-packages.ensures.packages in
+    let joins : or_refused Packages (join_answer (cards_of entries)) ≡ Ok ps = ap (λ xs. or_refused Packages (join_answer xs)) (sym cards) ∙ c.in_ok-joined.ensures.answer in
+    let there = subst (AllByRecursion (There entries)) (sym (joined_is Packages (cards_of entries) ps joins)) (joined_paths entries) in
+    let fits = paths_short paths entries folder ps c.in_ok-packages.ensures.paths small short there in
+    let fault = subst (λ (r : Result (List Card) Refusal). FaultGives c.in_err-list.field-0.0 r) (same_steps f known folder paths entries ps c.in_ok-packages.ensures.paths) (c.in_err-list.ensures.told catalogue fits f told) in
+    let is = take_fault f known (list_in (option_copied c.args.repo)) folder entries c.in_err-list.field-0.0 ps joins fault in
+    told_err c.from_residual-in_err-list.result e.0 c.in_err-list.field-0.0 (entries_arrive f c.args.known.now (list_in (option_copied c.args.repo)) c.args.folder.now entries) e.1 e.2 is
+
+pub returns-in_err-check-clause-told : goal.returns-in_err-check-clause-told
+returns-in_err-check-clause-told g c catalogue small short f told =
+    let e = err_from_is_err_and c.from_residual-in_err-check.result c.from_residual-in_err-check.ensures.1 in
+    let entries = c.args.entries.items in
+    let known = c.args.known.now in
+    let folder = c.args.folder.now in
+    let ps = c.in_ok-joined.joined in
+    let paths = c.in_ok-packages.paths in
+    let cards : map rc_value c.deref.result.now ≡ cards_of entries = ap (map rc_value) c.deref.ensures.value ∙ c.in_ok-packages.ensures.packages in
+    let joins : or_refused Packages (join_answer (cards_of entries)) ≡ Ok ps = ap (λ xs. or_refused Packages (join_answer xs)) (sym cards) ∙ c.in_ok-joined.ensures.answer in
+    let there = subst (AllByRecursion (There entries)) (sym (joined_is Packages (cards_of entries) ps joins)) (joined_paths entries) in
+    let fits = paths_short paths entries folder ps c.in_ok-packages.ensures.paths small short there in
+    let steps = sym (same_steps f known folder paths entries ps c.in_ok-packages.ensures.paths) ∙ c.in_ok-list.ensures.told catalogue fits f told in
+    let is = check_fault f known (list_in (option_copied c.args.repo)) folder entries c.in_err-check.field-0.0 ps c.in_ok-list.list joins steps c.in_err-check.ensures.answer in
+    told_err c.from_residual-in_err-check.result e.0 c.in_err-check.field-0.0 (entries_arrive f c.args.known.now (list_in (option_copied c.args.repo)) c.args.folder.now entries) e.1 e.2 is
+
+pub returns-in_err-check-clause-log : goal.returns-in_err-check-clause-log
+returns-in_err-check-clause-log g c =
+    GoesOn-map _ _ _ _ c.in_ok-list.ensures.log (λ l a h. all_fails _ _ c.in_ok-list.list c.from_residual-in_err-check.result _ _ l a c.from_residual-in_err-check.ensures.0 h)
+
+pub returns-clause-told : goal.returns-clause-told
+returns-clause-told g c catalogue small short f told =
+    let entries = c.args.entries.items in
+    let known = c.args.known.now in
+    let folder = c.args.folder.now in
+    let ps = c.in_ok-joined.joined in
+    let paths = c.in_ok-packages.paths in
+    let cards : map rc_value c.deref.result.now ≡ cards_of entries = ap (map rc_value) c.deref.ensures.value ∙ c.in_ok-packages.ensures.packages in
+    let joins : or_refused Packages (join_answer (cards_of entries)) ≡ Ok ps = ap (λ xs. or_refused Packages (join_answer xs)) (sym cards) ∙ c.in_ok-joined.ensures.answer in
+    let there = subst (AllByRecursion (There entries)) (sym (joined_is Packages (cards_of entries) ps joins)) (joined_paths entries) in
+    let fits = paths_short paths entries folder ps c.in_ok-packages.ensures.paths small short there in
+    let steps = sym (same_steps f known folder paths entries ps c.in_ok-packages.ensures.paths) ∙ c.in_ok-list.ensures.told catalogue fits f told in
+    all_ok f known (list_in (option_copied c.args.repo)) folder entries ps c.in_ok-list.list joins steps c.in_ok-check.ensures.answer
+
+pub returns-clause-fits : goal.returns-clause-fits
+returns-clause-fits g c catalogue packages =
+    let entries = c.args.entries.items in
+    let ps = c.in_ok-joined.joined in
+    let cards : map rc_value c.deref.result.now ≡ cards_of entries = ap (map rc_value) c.deref.ensures.value ∙ c.in_ok-packages.ensures.packages in
+    let joins : or_refused Packages (join_answer (cards_of entries)) ≡ Ok ps = ap (λ xs. or_refused Packages (join_answer xs)) (sym cards) ∙ c.in_ok-joined.ensures.answer in
+    let is = joined_is Packages (cards_of entries) ps joins in
+    record {
+      joined = ps;
+      ascending = subst (IsAscending package_cmp) (sym is) (joined_ascending (cards_of entries));
+      taken = c.in_ok-list.ensures.taken catalogue (subst (All (λ (p : Card). IsPackage p × IsSaid p.said)) (sym is) (joined_good entries packages));
+      checked = c.in_ok-check.ensures.answer;
+    }
