@@ -203,7 +203,7 @@ count_more name list [] = refl
 count_more name list (r ∷ rs) = ap (λ n. suc n) (count_more name list rs)
 
 -- a repository that comes after one of that name has another
-later_differs : (name : List ℕ) (r s : Repo) → bytes_eq r.name name ≡ true → repo_cmp r s ≡ Less → bytes_eq s.name name ≡ false
+pub later_differs : (name : List ℕ) (r s : Repo) → bytes_eq r.name name ≡ true → repo_cmp r s ≡ Less → bytes_eq s.name name ≡ false
 later_differs name r s e l = by_test (bytes_eq s.name name) refl
   where
     is_equal : (o : Ordering) → is_eq o ≡ true → o ≡ Equal
@@ -224,7 +224,7 @@ later_differs name r s e l = by_test (bytes_eq s.name name) refl
     by_test true h = absurd (never h)
     by_test false h = h
 
-same_more : (name : List ℕ) (list : List Card) (r : Repo) → bytes_eq r.name name ≡ false → with_more name list r ≡ r
+pub same_more : (name : List ℕ) (list : List Card) (r : Repo) → bytes_eq r.name name ≡ false → with_more name list r ≡ r
 same_more name list r e = ap (λ b. cond b (record r { list = union r.list list }) r) e
 
 -- behind the repository of that name the others are as they were
