@@ -1,6 +1,6 @@
 -- One package more.
-use Rattle.std.proofs.Common.{◌≡◌, ◌⊎◌, inl, inr, ℕ, zero, suc, ◌+◌, ◌-◌, ◌<◌, ◌≤◌, ◌^◌, ◌↔◌, Bool, true, false, ◌&&◌, not, cond, List, [], ◌∷◌, ◌++◌, length, get_or, Option, Some, None, IfSome, IsTrue, All, codes, refl, sym, ap, ◌∙◌, subst, arith, append-nil, append_assoc, length-append, rules}
-use Rattle.std.specs.Prelude.{slice_get, MatchBool}
+use Rattle.std.proofs.Common.{◌≡◌, ◌⊎◌, inl, inr, ℕ, zero, suc, ◌+◌, ◌-◌, ◌<◌, ◌≤◌, ◌^◌, Bool, true, false, cond, List, [], ◌∷◌, ◌++◌, length, get_or, Option, Some, None, IfSome, codes, refl, sym, ap, ◌∙◌, subst, arith, append_assoc, length-append}
+use Rattle.std.specs.Prelude.{slice_get}
 use Rattle.std.specs.Option.{SomeIff}
 use Rattle.std.specs.Map.{update}
 use Rattle.std.specs.Fmt.{decimal}
@@ -17,18 +17,16 @@ use Rattle.hex.proofs.HexLemmas.{IsAscii-encode_with}
 use Rattle.sha2.specs.Sha256.{sha256}
 use Rattle.package_core.specs.Card.{Card, package_text}
 use Rattle.package_core.specs.Whole.{IsWhole, IsTextOf}
-use Rattle.package_core.specs.Order.{package_cmp}
-use Rattle.machine_state.specs.declared.limit.Limit.TheVariants.{Catalogue, File}
+use Rattle.machine_state.specs.declared.limit.Limit.TheVariants.{Catalogue}
 use Rattle.machine_state.specs.Limits.{limit_number}
 use Rattle.machine_state.specs.State.{text_length}
 use Rattle.catalogue_text.specs.Lines.{IsLine}
 use Rattle.catalogue_text.specs.Pieces.{packed, package_line, piece_text, Begins}
 use Rattle.catalogue_text.specs.Root.{id_of}
-use Rattle.catalogue_text.specs.Reading.{NoLine, PlaceIs, RoomIs, IsSmall}
+use Rattle.catalogue_text.specs.Reading.{PlaceIs, RoomIs}
 use Rattle.catalogue_text.proofs.LineLemmas.{same_bytes, equal_bytes, line_unique}
 use Rattle.catalogue_text.proofs.PlainLemmas.{digits_plain}
 use Rattle.catalogue_text.proofs.TakesLemmas.{same_length, package_closed, packed_front}
-use Rattle.catalogue_text.proofs.ValidLemmas.{all_cons, all_tail, all_none}
 
 -- ---- what is left of the limit
 text_length_push : (before : List Card) (new : Card) → text_length (before ++ new ∷ []) ≡ text_length before + length (package_text new)

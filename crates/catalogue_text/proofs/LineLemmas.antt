@@ -1,5 +1,5 @@
 -- Lines, from the front of a text.
-use Rattle.std.proofs.Common.{◌≡◌, ◌⊎◌, inl, inr, ℕ, suc, zero, ◌+◌, ◌<◌, Bool, true, false, ◌||◌, cond, List, [], ◌∷◌, ◌++◌, length, take, drop, get_or, refl, sym, ap, ◌∙◌, subst, arith, append-nil, append_assoc, rules}
+use Rattle.std.proofs.Common.{◌≡◌, inl, inr, ℕ, suc, zero, ◌<◌, true, false, List, [], ◌∷◌, ◌++◌, length, take, drop, get_or, refl, sym, ap, ◌∙◌, subst, arith, append-nil, rules}
 use Rattle.std.specs.Bool.{◌==◌}
 use Rattle.std.specs.List.{list_any}
 use Rattle.std.specs.Str.{bytes_eq}
@@ -76,10 +76,13 @@ line_unique text a b r s h g =
     elim h.ended [
       | inl e ↦ elim g.ended [
         | inl f ↦ plain_cut a b r s h.plain g.plain (sym e ∙ f)
-        | inr f ↦ absurd (not_plain a r (subst IsPlain (sym f.0 ∙ e) g.plain)) ]
+        | inr f ↦ absurd (not_plain a r (subst IsPlain (sym f.0 ∙ e) g.plain))
+      ]
       | inr e ↦ elim g.ended [
         | inl f ↦ absurd (not_plain b s (subst IsPlain (sym e.0 ∙ f) h.plain))
-        | inr f ↦ (sym e.0 ∙ f.0, e.1 ∙ sym f.1) ] ]
+        | inr f ↦ (sym e.0 ∙ f.0, e.1 ∙ sym f.1)
+      ]
+    ]
 
 -- an empty text has no line
 pub no_line : (line rest : List ℕ) → IsLine [] line rest → ⊥

@@ -1,10 +1,10 @@
 -- Parts of a root: how one goes on behind another, and where the reading of both stops.
-use Rattle.std.proofs.Common.{◌≡◌, ℕ, zero, suc, ◌+◌, ◌-◌, ◌<◌, Bool, true, false, List, [], ◌∷◌, ◌++◌, length, take, codes, refl, sym, ap, ◌∙◌, subst, arith, append-nil, append_assoc}
+use Rattle.std.proofs.Common.{◌≡◌, ℕ, zero, suc, ◌+◌, ◌-◌, ◌<◌, false, List, [], ◌∷◌, ◌++◌, length, take, codes, refl, sym, subst, arith, append-nil, append_assoc}
 use Rattle.std.specs.List.{flat_map}
 use Rattle.std.specs.Str.{bytes_eq}
 use Rattle.catalogue_text.specs.Lines.{IsLine}
-use Rattle.catalogue_text.specs.Pieces.{Piece, alone, packed, Begins, Takes}
-use Rattle.catalogue_text.specs.Grammar.{Line, Series, Ends}
+use Rattle.catalogue_text.specs.Pieces.{Piece, alone, packed, Takes}
+use Rattle.catalogue_text.specs.Grammar.{Line, Series}
 use Rattle.catalogue_text.specs.Reading.{NoLine, Stops, Never, Always, Each}
 
 -- the line isn't the line of a package
@@ -231,8 +231,3 @@ module _ {X : Type 0} (One : List X → (X → List Piece → Type 0) → List P
                 ((one xs).mono (λ x. Series m One (xs ++ x ∷ []) Always) Always (λ x ys q. tt) (s.good ++ next ∷ [])
                 (series_out told xs count (suc m) [] Always (s.good ++ next ∷ []) e g (subst (Series count One [] Always) (append_assoc (flat_map pieces xs) s.good (next ∷ [])) p)));
           }
-
-  -- one more of the series
-  pub each_push : (done xs : List X) (x : X) → Each Good done xs → Good (done ++ xs) x → Each Good done (xs ++ x ∷ [])
-  each_push done [] x e g = (subst (λ (d : List X). Good d x) (append-nil done) g, tt)
-  each_push done (y ∷ ys) x e g = (e.0, each_push (done ++ y ∷ []) ys x e.1 (subst (λ (d : List X). Good d x) (sym (append_assoc done (y ∷ []) ys)) g))

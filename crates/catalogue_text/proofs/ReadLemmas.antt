@@ -1,5 +1,5 @@
 -- The reading of each part: what is read, and where it stops.
-use Rattle.std.proofs.Common.{◌≡◌, ◌⊎◌, inl, inr, ℕ, zero, suc, ◌+◌, ◌<◌, ◌≤◌, ◌^◌, ◌↔◌, Bool, true, false, cond, if◌then◌else◌, List, [], ◌∷◌, ◌++◌, length, map, get_or, Option, Some, None, Result, Ok, Err, IfSome, IsTrue, IsFalse, All, codes, refl, sym, ap, ◌∙◌, subst, arith, append-nil, append_assoc, length-append, Ordering, Less, Equal, Greater}
+use Rattle.std.proofs.Common.{◌≡◌, ℕ, zero, suc, ◌+◌, ◌<◌, ◌≤◌, ◌^◌, ◌↔◌, Bool, true, false, if◌then◌else◌, List, [], ◌∷◌, ◌++◌, length, Option, Some, None, Result, Ok, Err, IsTrue, IsFalse, codes, refl, sym, ap, ◌∙◌, subst, arith, append-nil, append_assoc, length-append, Ordering, Less, Equal, Greater}
 use Rattle.std.specs.Prelude.{slice_get, MatchBool}
 use Rattle.std.specs.List.{flat_map}
 use Rattle.std.specs.Result.{IfOk, IfErr}
@@ -17,7 +17,7 @@ use Rattle.machine_state.specs.declared.limit.Limit.TheVariants.{Repos, Packages
 use Rattle.machine_state.specs.declared.repo.Repo.{Repo}
 use Rattle.machine_state.specs.Ascending as names
 use Rattle.machine_state.specs.Limits.{limit_number}
-use Rattle.machine_state.specs.State.{name_cmp, repo_cmp, IsKnown, IsLineText}
+use Rattle.machine_state.specs.State.{name_cmp, repo_cmp, IsLineText}
 use Rattle.catalogue_text.specs.Lines.{IsLine}
 use Rattle.catalogue_text.specs.Pieces.{Piece, alone, packed, Begins, Takes}
 use Rattle.catalogue_text.specs.Root.{id_of, set_line, known_line, repos_line, name_line, comment_line, distribution_line, component_line, set_pieces, known_pieces, repos_pieces, repo_pieces, last_pieces}
@@ -26,8 +26,8 @@ use Rattle.catalogue_text.specs.declared.stop.Stop.{Stop}
 use Rattle.catalogue_text.specs.declared.stop.Stop.TheVariants.{Before, OutOfMemory}
 use Rattle.catalogue_text.specs.Reading.{IfBefore, NoLine, ReadsLine, Stops, Always, Each, ReadsSeries, ReadsPart, GoodSet, GoodRepo, GoodKnown, GoodRepos, PlaceIs, IdsApart, AddsMember}
 use Rattle.catalogue_text.proofs.LineLemmas.{line_unique, same_line}
-use Rattle.catalogue_text.proofs.Parts.{IsPart, IsTold, IsOther, takes_both, line_of, stops_line, stops_first, stops_then, stops_as, stops_series, series_part}
-use Rattle.catalogue_text.proofs.RootParts.{Any, package_pieces, package_part, package_told, fixed_part, fixed_told, count_part, count_told, member_pieces, member_part, member_told, repo_part, repo_told, IsDistribution, IsComponent, FromSet, FromComponent, FromDistribution, FromComment, set_of, component_of, distribution_of, comment_of, GoodFromSet, GoodFromComponent, GoodFromDistribution, GoodFromComment, made, set_part, from_set, from_component, from_distribution, from_comment, name_part, name_told, comment_part, comment_told, distribution_part, distribution_told, component_part, component_told, KnownSeries, counted_known, ReposSeries, repos_of, GoodCounted, counted_repos, EndLine, FromPublications, end_part, end_told, publications_part}
+use Rattle.catalogue_text.proofs.Parts.{IsPart, IsOther, takes_both, line_of, stops_line, stops_first, stops_then, stops_as, stops_series, series_part}
+use Rattle.catalogue_text.proofs.RootParts.{Any, package_pieces, package_part, package_told, fixed_part, fixed_told, count_part, count_told, member_pieces, member_part, member_told, repo_part, repo_told, IsDistribution, IsComponent, FromSet, FromComponent, FromDistribution, FromComment, set_of, component_of, distribution_of, comment_of, GoodFromSet, GoodFromComponent, GoodFromDistribution, GoodFromComment, made, set_part, from_set, from_component, from_distribution, from_comment, name_part, name_told, comment_part, comment_told, distribution_part, distribution_told, component_part, component_told, KnownSeries, counted_known, ReposSeries, counted_repos, EndLine, FromPublications, end_part, publications_part}
 use Rattle.catalogue_text.proofs.PlainLemmas.{known_other, repos_other, set_other}
 use Rattle.catalogue_text.proofs.ValidLemmas.{NamesBefore, all_cons, all_tail, all_none, known_at, place_at}
 
@@ -147,8 +147,7 @@ place_inside known id place h = in_list known place h.0 h.1
 pub joins : (known list after : List Card) (text id rest : List ℕ) (place : ℕ) (done : Bool) (h : PlaceFound known id place) → IsAscending package_cmp known → done ≡ true
     → (IsTrue done ↔ (AllLess package_cmp list h.0 × IsFalse (clashes list h.0))) → after ≡ (if done then list ++ h.0 ∷ [] else list) → IsLine text id rest → AddsMember known list text after rest
 joins known list after text id rest place done h sorted t answer e l =
-    let both = answer.0 t in
-    (
+    let both = answer.0 t in (
       h.0,
       (record { known_is = known_at known place h.0 sorted h.1; after = both.0; apart = both.1 }, same_line text id rest (id_of h.0) l (sym h.2)),
       e ∙ ap (λ b. if b then list ++ h.0 ∷ [] else list) t,

@@ -1,5 +1,5 @@
 -- The parts of a root, one behind another.
-use Rattle.std.proofs.Common.{◌≡◌, ℕ, ◌<◌, ◌≤◌, ◌^◌, List, [], ◌∷◌, ◌++◌, length, map, codes, Option, Some, None, IsTrue, IfSome, refl, sym, ap, ◌∙◌, subst, arith, append_assoc, append-nil}
+use Rattle.std.proofs.Common.{◌≡◌, ℕ, ◌<◌, ◌≤◌, ◌^◌, List, [], ◌∷◌, ◌++◌, length, codes, Option, Some, None, IsTrue, IfSome, refl, sym, ap, subst, arith, append_assoc}
 use Rattle.std.specs.List.{flat_map}
 use Rattle.std.specs.Option.{unwrap_or}
 use Rattle.std.specs.Fmt.{decimal}
@@ -15,11 +15,11 @@ use Rattle.machine_state.specs.declared.repo.Repo.{Repo}
 use Rattle.machine_state.specs.Limits.{limit_number}
 use Rattle.machine_state.specs.State.{IsLineText, is_component}
 use Rattle.machine_state.specs.Values.{StateView}
-use Rattle.catalogue_text.specs.Pieces.{Piece, alone, packed, Takes}
+use Rattle.catalogue_text.specs.Pieces.{Piece, alone, packed}
 use Rattle.catalogue_text.specs.Root.{id_of, blank_and, known_line, repos_line, name_line, comment_line, distribution_line, component_line, set_line, set_pieces, repo_pieces, known_pieces, repos_pieces, last_pieces, root_pieces}
-use Rattle.catalogue_text.specs.Grammar.{Line, Fixed, Series, Count, NextPackage, NextMember, MayJoin, SetPart, IsName, IsNext, NextRepo, LastPart, KnownPart, ReposPart, Root, IsWithinLimits}
-use Rattle.catalogue_text.specs.Reading.{Stops, Each, GoodSet, GoodRepo, GoodKnown, GoodRepos, IdsApart, ReadsSeries, ReadsPart}
-use Rattle.catalogue_text.proofs.Parts.{IsPart, IsTold, Others, IsOther, line_of, line_part, line_told, both_part, both_told, as_part, as_told, series_part, series_told, part_when, takes_both}
+use Rattle.catalogue_text.specs.Grammar.{Line, Series, Count, NextPackage, NextMember, MayJoin, SetPart, IsName, IsNext, NextRepo, LastPart, KnownPart, ReposPart, Root, IsWithinLimits}
+use Rattle.catalogue_text.specs.Reading.{Each, GoodSet, GoodRepo, GoodKnown, GoodRepos, IdsApart}
+use Rattle.catalogue_text.proofs.Parts.{IsPart, IsTold, Others, IsOther, line_of, line_part, line_told, both_part, both_told, as_part, as_told, series_part, series_told, part_when}
 use Rattle.catalogue_text.proofs.PlainLemmas.{id_other, known_other, repos_other, set_other, name_other, comment_other, distribution_other, component_other}
 
 -- ---- one package

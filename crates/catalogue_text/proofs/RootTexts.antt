@@ -1,25 +1,24 @@
 -- Whole root texts: the pieces of a valid state, and where a text stops being one.
-use Rattle.std.proofs.Common.{◌≡◌, ◌⊎◌, inl, inr, ℕ, zero, suc, ◌+◌, ◌/◌, ◌%◌, ◌<◌, ◌≤◌, ◌^◌, Bool, true, false, if◌then◌else◌, List, [], ◌∷◌, ◌++◌, length, map, Option, Some, None, IsTrue, IsFalse, IfSome, All, Result, Ok, Err, codes, refl, sym, ap, ◌∙◌, subst, arith, append-nil, append_assoc, Ordering, Less}
+use Rattle.std.proofs.Common.{◌≡◌, ◌⊎◌, inl, inr, ℕ, zero, suc, ◌<◌, ◌≤◌, ◌^◌, Bool, true, false, if◌then◌else◌, List, [], ◌∷◌, ◌++◌, length, map, Some, All, Result, Ok, Err, refl, sym, ap, ◌∙◌, subst, arith, append-nil, append_assoc}
 use Rattle.std.specs.Prelude.{slice_index}
 use Rattle.std.specs.Int.{to_be_bytes, w32}
 use Rattle.std.specs.List.{flat_map}
 use Rattle.std.specs.Ordering.{is_eq}
 use Rattle.std.proofs.lemmas.Bool.{true≢false}
 use Rattle.hex.specs.declared.error.FromHexError.{FromHexError}
-use Rattle.hex.specs.Hex.{IsBytes, encode_lower, decode_of}
+use Rattle.hex.specs.Hex.{IsBytes, decode_of}
 use Rattle.hex.proofs.HexLemmas.{decode_of-encode_lower}
 use Rattle.sha2.specs.Sha256.{sha256, digest_bytes, final_hash, initial_hash_256}
-use Rattle.ap_text.specs.Names.{is_name}
 use Rattle.package_core.specs.Card.{Card, package_text}
 use Rattle.package_core.specs.Whole.{IsWhole}
 use Rattle.package_core.specs.Order.{package_cmp}
 use Rattle.package_core.proofs.WholeLemmas.{one_package_text}
-use Rattle.package_list.specs.Sorted.{IsAscending, AllLess, equal_of}
-use Rattle.machine_state.specs.declared.limit.Limit.TheVariants.{Repos, Packages, Known, Catalogue}
+use Rattle.package_list.specs.Sorted.{AllLess, equal_of}
+use Rattle.machine_state.specs.declared.limit.Limit.TheVariants.{Packages}
 use Rattle.machine_state.specs.declared.repo.Repo.{Repo}
 use Rattle.machine_state.specs.Ascending as names
 use Rattle.machine_state.specs.Limits.{limit_number}
-use Rattle.machine_state.specs.State.{IsRepo, IsNamedList, IsCatalogue, IsKnown, Valid, repo_cmp, name_cmp, text_length}
+use Rattle.machine_state.specs.State.{IsRepo, IsNamedList, IsKnown, Valid, repo_cmp, text_length}
 use Rattle.machine_state.specs.Values.{StateView}
 use Rattle.catalogue_text.specs.Lines.{IsPlain, is_ended, line_ends}
 use Rattle.catalogue_text.specs.Pieces.{Piece, alone, packed, package_line, piece_text, Begins, Takes}
@@ -27,7 +26,7 @@ use Rattle.catalogue_text.specs.Root.{id_of, joined, set_pieces, repo_pieces, kn
 use Rattle.catalogue_text.specs.Grammar.{Ends, KnownPart, Root, CanStand, IsWithinLimits, MayJoin}
 use Rattle.catalogue_text.specs.Faults.{IsWithin, TextsApart, IsFirstBadLine}
 use Rattle.catalogue_text.specs.Reading.{Stops, StopsRoot, Never, Always, Each, GoodSet, GoodRepo, GoodKnown, GoodRepos, IdsApart}
-use Rattle.catalogue_text.proofs.Parts.{Others, takes_both}
+use Rattle.catalogue_text.proofs.Parts.{Others}
 use Rattle.catalogue_text.proofs.PlainLemmas.{known_plain, repos_plain, set_plain, repo_name_plain, comment_plain, distribution_plain, component_plain, id_plain}
 use Rattle.catalogue_text.proofs.RootParts.{GoodState, state_of, known_part, known_told, root_part, root_told}
 use Rattle.catalogue_text.proofs.TakesLemmas.{Shorts, takes_short, takes_unique, GoesOn, nothing_begins, ended_text, joined_ended}
@@ -205,7 +204,8 @@ within_line : (part text l mid : List ℕ) → Begins text (alone l) mid → IsW
 within_line part text l mid b w =
     elim b.ended [
       | inl e ↦ within_more part text mid (l ++ 10 ∷ []) (e ∙ sym (append_assoc l (10 ∷ []) mid)) w
-      | inr e ↦ within_more part text mid text (sym (ap (λ t. text ++ t) e.1 ∙ append-nil text)) w ]
+      | inr e ↦ within_more part text mid text (sym (ap (λ t. text ++ t) e.1 ∙ append-nil text)) w
+    ]
 
 known_stands : (known : List Card) (text rest : List ℕ) (p : Card) → Takes text (known_pieces known) rest → IsKnown known p → IsWhole p × IsWithin (package_text p) text
 unfolding known_pieces

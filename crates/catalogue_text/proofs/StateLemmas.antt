@@ -1,19 +1,17 @@
 -- A whole root: its parts read one behind another.
-use Rattle.std.proofs.Common.{◌≡◌, ℕ, suc, ◌<◌, ◌^◌, ◌↔◌, Bool, true, false, List, [], ◌∷◌, ◌++◌, length, IsTrue, All, refl, sym, ap, ◌∙◌, subst}
+use Rattle.std.proofs.Common.{◌≡◌, ℕ, suc, ◌<◌, ◌^◌, ◌↔◌, Bool, true, false, List, [], ◌++◌, length, IsTrue, refl, sym, ◌∙◌, subst}
 use Rattle.std.proofs.lemmas.Bool.{true≢false}
 use Rattle.package_core.specs.Card.{Card}
-use Rattle.package_core.specs.Whole.{IsWhole}
 use Rattle.machine_state.specs.declared.repo.Repo.{Repo}
 use Rattle.machine_state.specs.State.{Valid}
-use Rattle.machine_state.specs.Values.{StateView}
 use Rattle.catalogue_text.specs.Lines.{is_ended, line_ends}
-use Rattle.catalogue_text.specs.Pieces.{Piece, Takes}
+use Rattle.catalogue_text.specs.Pieces.{Takes}
 use Rattle.catalogue_text.specs.Root.{known_pieces, repos_pieces, last_pieces, root_pieces, root_text, joined}
 use Rattle.catalogue_text.specs.Grammar.{KnownPart, ReposPart, LastPart, Root, IsWithinLimits}
 use Rattle.catalogue_text.specs.Faults.{TextsApart, IsFirstBadLine}
 use Rattle.catalogue_text.specs.Reading.{Stops, StopsRoot, ReadsPart, GoodKnown, GoodRepos, IdsApart}
 use Rattle.catalogue_text.proofs.Parts.{takes_both, stops_first, stops_then, stops_as}
-use Rattle.catalogue_text.proofs.RootParts.{state_of, FromRepos, FromLast, GoodFromRepos, GoodFromLast, GoodState, known_part, known_told, repos_part, repos_told, last_part, from_last, from_repos}
+use Rattle.catalogue_text.proofs.RootParts.{state_of, FromRepos, FromLast, GoodFromRepos, GoodFromLast, known_part, known_told, repos_part, repos_told, last_part, from_last, from_repos}
 use Rattle.catalogue_text.proofs.RootTexts.{ids_apart, known_whole, valid_state, text_is_root, stops_root, stops_behind}
 
 in_known : (text : List ℕ) (left : ℕ) → Stops KnownPart text left → Stops Root text left
@@ -62,8 +60,7 @@ stops_at_end text mid end rest known repos at r q p f h small apart =
 pub found_state : (text mid end rest : List ℕ) (known : List Card) (repos : List Repo) (at : Bool) → ReadsPart known_pieces GoodKnown text known mid → ReadsPart repos_pieces (GoodRepos known) mid repos end → ReadsPart {A = Unit {0}} (λ u. last_pieces) (λ u. IsWithinLimits known) end tt rest
     → at ≡ true → (IsTrue at ↔ ((rest ≡ []) × (is_ended text ≡ true))) → Valid (state_of known repos) × (text ≡ root_text (state_of known repos))
 found_state text mid end rest known repos at r q p t h =
-    let e = h.0 t in
-    (
+    let e = h.0 t in (
       valid_state known repos (known_whole known text mid r.takes) r.good q.good p.good,
       text_is_root text (state_of known repos) (subst (Takes text (root_pieces (state_of known repos))) e.0 (takes_all text mid end rest known repos r q p)) e.1,
     )

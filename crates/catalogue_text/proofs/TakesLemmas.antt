@@ -1,12 +1,11 @@
 -- How a text is cut into pieces: in one way, and which of its bytes they are.
-use Rattle.std.proofs.Common.{◌≡◌, ◌⊎◌, inl, inr, ℕ, zero, suc, ◌+◌, ◌-◌, ◌<◌, ◌≤◌, ◌^◌, Bool, true, false, ◌&&◌, cond, if◌then◌else◌, List, [], ◌∷◌, ◌++◌, length, take, codes, refl, sym, ap, ◌∙◌, subst, arith, append-nil, append_assoc, length-append}
+use Rattle.std.proofs.Common.{◌≡◌, ◌⊎◌, inl, inr, ℕ, suc, ◌+◌, ◌-◌, ◌<◌, ◌^◌, true, false, cond, if◌then◌else◌, List, [], ◌∷◌, ◌++◌, length, take, codes, refl, sym, ap, ◌∙◌, subst, arith, append-nil, append_assoc, length-append}
 use Rattle.std.specs.Bool.{◌==◌}
-use Rattle.std.specs.List.{list_any, flat_map, count_by}
+use Rattle.std.specs.List.{list_any}
 use Rattle.std.specs.Option.{unwrap_or}
 use Rattle.std.specs.Fmt.{decimal}
 use Rattle.std.specs.Str.{bytes_eq}
-use Rattle.std.proofs.lemmas.Bool.{or_parts, true≢false, false≢true}
-use Rattle.std.proofs.lemmas.Bool.Decides.{nat_tests}
+use Rattle.std.proofs.lemmas.Bool.{or_parts, true≢false}
 use Rattle.std.proofs.lemmas.Fmt.{decimal_injective}
 use Rattle.std.proofs.lemmas.List.{append_cancel_left}
 use Rattle.std.proofs.lemmas.List.Sums.{sum_by-append}
@@ -40,7 +39,8 @@ no_package_line : (text a r w : List ℕ) → IsOther a → IsLine text a r → 
 no_package_line text a r w o l e =
     elim l.ended [
       | inl f ↦ other (same_front (codes "package ") a r w refl (sym f ∙ e))
-      | inr f ↦ other (ap (take 8) (sym f.0 ∙ e) ∙ take-append_seam (codes "package ") w) ]
+      | inr f ↦ other (ap (take 8) (sym f.0 ∙ e) ∙ take-append_seam (codes "package ") w)
+    ]
   where
     other : take 8 a ≡ codes "package " → ⊥
     other h = let t : bytes_eq (codes "package ") (codes "package ") ≡ false = ap (λ b. bytes_eq b (codes "package ")) (sym h) ∙ o in
@@ -73,7 +73,7 @@ behind_short text mid front small e = let a = ap length e ∙ length-append fron
 packed_unique : (text r s : List ℕ) (p q : Card) → length (package_text p) < 2 ^ 64 → length (package_text q) < 2 ^ 64 → IsWhole p → IsWhole q → text ≡ piece_text (packed p) ++ r → text ≡ piece_text (packed q) ++ s → (p ≡ q) × (r ≡ s)
 packed_unique text r s p q np nq wp wq e f =
     let cut = plain_cut (package_line (length (package_text p))) (package_line (length (package_text q))) (package_text p ++ r) (package_text q ++ s) (digits_plain (length (package_text p)) np) (digits_plain (length (package_text q)) nq)
-        (sym (append_assoc (package_line (length (package_text p))) (10 ∷ package_text p) r) ∙ sym e ∙ f ∙ append_assoc (package_line (length (package_text q))) (10 ∷ package_text q) s) in
+    (sym (append_assoc (package_line (length (package_text p))) (10 ∷ package_text p) r) ∙ sym e ∙ f ∙ append_assoc (package_line (length (package_text q))) (10 ∷ package_text q) s) in
     let n : length (package_text p) ≡ length (package_text q) = decimal_injective _ _ np nq (append_cancel_left (codes "package ") _ _ cut.0) in
     let both = same_length (package_text p) (package_text q) r s n cut.1 in
     (one_package_text p q wp wq both.0, both.1)
@@ -152,7 +152,8 @@ takes_text [] text rest t = inl t
 takes_text (alone l ∷ xs) text rest t =
     elim t.1.ended [
       | inl e ↦ text_then text (l ++ 10 ∷ []) t.0 xs rest (alone l) refl (e ∙ sym (append_assoc l (10 ∷ []) t.0)) (takes_text xs t.0 rest t.2)
-      | inr e ↦ last xs e.0 (subst (λ (y : List ℕ). Takes y xs rest) e.1 t.2) (plain_unended l t.1.plain e.2) ]
+      | inr e ↦ last xs e.0 (subst (λ (y : List ℕ). Takes y xs rest) e.1 t.2) (plain_unended l t.1.plain e.2)
+    ]
   where
     last : (xs : List Piece) → text ≡ l → Takes [] xs rest → is_ended l ≡ false → IsText text (alone l ∷ xs) rest
     last [] e u h = inr (sym u, append-nil (l ++ 10 ∷ []) ∙ ap (λ y. y ++ 10 ∷ []) (sym e), ap is_ended e ∙ h)

@@ -1,16 +1,15 @@
 -- What a valid state keeps to, one by one in order, and the other way round.
-use Rattle.std.proofs.Common.{◌≡◌, ℕ, zero, suc, ◌+◌, ◌<◌, ◌≤◌, Bool, true, false, not, ◌&&◌, ◌||◌, cond, if◌then◌else◌, List, [], ◌∷◌, ◌++◌, length, get_or, Option, Some, None, IsTrue, IsFalse, All, refl, sym, ap, ◌∙◌, subst, arith, append-nil, append_assoc, Ordering, Less, Equal, Greater}
+use Rattle.std.proofs.Common.{◌≡◌, ℕ, zero, suc, Bool, true, false, not, ◌&&◌, ◌||◌, if◌then◌else◌, List, [], ◌∷◌, ◌++◌, Some, IsFalse, All, refl, sym, ap, ◌∙◌, subst, arith, append-nil, append_assoc, Ordering, Less, Equal, Greater}
 use Rattle.std.specs.Prelude.{slice_get}
 use Rattle.std.specs.Ordering.{is_eq, ordering_reverse}
 use Rattle.std.specs.List.{list_any}
-use Rattle.std.proofs.lemmas.Bool.{or_parts, true≢false}
+use Rattle.std.proofs.lemmas.Bool.{or_parts}
 use Rattle.std.proofs.lemmas.Cmp.{tied_itself}
 use Rattle.package_core.specs.Card.{Card}
 use Rattle.package_core.specs.Order.{package_cmp, triple_cmp, same_triple}
 use Rattle.package_core.proofs.OrderLaws.{package_total, triple_total, same_triple-is}
 use Rattle.package_list.specs.Sorted.{IsAscending, IsBelow, AllLess, equal_of}
 use Rattle.package_list.specs.Lists.{clash, clashes}
-use Rattle.package_list.proofs.Beside.{agreeing}
 use Rattle.package_list.proofs.Pushes.{less_before, ascending_push}
 use Rattle.machine_state.specs.declared.repo.Repo.{Repo}
 use Rattle.machine_state.specs.Ascending as names

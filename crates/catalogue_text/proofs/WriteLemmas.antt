@@ -1,13 +1,12 @@
 -- Texts written piece by piece.
-use Rattle.std.proofs.Common.{◌≡◌, ℕ, zero, suc, ◌+◌, ◌<◌, ◌≤◌, List, [], ◌∷◌, ◌++◌, length, take, map, Option, Some, Result, Ok, Err, refl, sym, ap, ◌∙◌, subst, arith, append_assoc, append-nil}
+use Rattle.std.proofs.Common.{◌≡◌, ℕ, zero, suc, ◌+◌, ◌≤◌, List, [], ◌∷◌, ◌++◌, length, take, map, Some, Result, Ok, Err, sym, ap, ◌∙◌, arith, append_assoc, append-nil}
 use Rattle.std.specs.Prelude.{slice_get}
 use Rattle.std.specs.Result.{OnOk}
-use Rattle.std.specs.List.{flat_map}
 use Rattle.std.proofs.lemmas.List.{map-append, take_all}
 use Rattle.std.proofs.lemmas.List.Concat.{flat_map-append}
 use Rattle.package_core.specs.Card.{Card}
 use Rattle.machine_state.specs.Values.{StateView}
-use Rattle.catalogue_text.specs.Pieces.{Piece, alone, piece_text}
+use Rattle.catalogue_text.specs.Pieces.{Piece, piece_text}
 use Rattle.catalogue_text.specs.Root.{joined, known_pieces, repos_pieces, last_pieces, root_pieces, root_text}
 
 take_more : (xs : List Card) (i : ℕ) (p : Card) → slice_get xs i ≡ Some p → take (i + 1) xs ≡ take i xs ++ p ∷ []

@@ -1,6 +1,6 @@
 -- What can stand first in a root: at each place the form that the pieces before it ask for, and with it the condition of a
 -- valid state that it has to meet, by itself or together with the pieces before it. Nothing is asked of what could follow.
-use Rattle.std.specs.Prelude.{◌≡◌, ◌≤◌, ℕ, zero, suc, List, [], ◌∷◌, ◌++◌, codes, Option, IsTrue, IsFalse, IfSome, All}
+use Rattle.std.specs.Prelude.{◌≡◌, ◌≤◌, ℕ, zero, suc, List, [], ◌∷◌, ◌++◌, codes, IsTrue, IsFalse, IfSome, All}
 use Rattle.std.specs.declared.cmp.Ordering.TheVariants.{Less}
 use Rattle.ap_text.specs.Names.{is_name}
 use Rattle.package_core.specs.Card.{Card}

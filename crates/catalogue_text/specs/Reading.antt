@@ -1,5 +1,5 @@
 -- A root text, read part by part: what each part gives, and where its reading stops.
-use Rattle.std.specs.Prelude.{◌≡◌, ◌≤◌, ◌<◌, ◌↔◌, ◌+◌, ℕ, List, [], ◌∷◌, ◌++◌, length, map, All, Option, Some, None, slice_get, IsTrue, IfSome}
+use Rattle.std.specs.Prelude.{◌≡◌, ◌≤◌, ◌<◌, ◌↔◌, ◌+◌, ℕ, List, [], ◌∷◌, ◌++◌, length, All, Option, Some, None, slice_get, IsTrue, IfSome}
 use Rattle.std.specs.BTreeMap.{get_by_text}
 use Rattle.std.specs.List.{flat_map}
 use Rattle.package_core.specs.Card.{Card}
@@ -14,7 +14,7 @@ use Rattle.catalogue_text.specs.declared.known.Known.{Known}
 use Rattle.catalogue_text.specs.declared.stop.Stop.{Stop}
 use Rattle.catalogue_text.specs.declared.stop.Stop.TheVariants.{Before, OutOfMemory}
 use Rattle.catalogue_text.specs.Lines.{IsLine}
-use Rattle.catalogue_text.specs.Pieces.{Piece, alone, packed, Begins, Takes}
+use Rattle.catalogue_text.specs.Pieces.{Piece, packed, Begins, Takes}
 use Rattle.catalogue_text.specs.Root.{id_of, root_text}
 use Rattle.catalogue_text.specs.Grammar.{MayJoin, IsName, IsNext, CanStand}
 

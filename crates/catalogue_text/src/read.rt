@@ -29,7 +29,11 @@ fn read_last<'a>(text: &'a [u8], known: &Known) -> Result<&'a [u8], usize>
     let Some(behind) = after_line(rest, "end") else {
         return Err(rest.len());
     };
-    if known.is_within_limits() { Ok(behind) } else { Err(rest.len()) }
+    if known.is_within_limits() {
+        Ok(behind)
+    } else {
+        Err(rest.len())
+    }
 }
 
 /// Whether nothing is left of a text whose last line has its line end.

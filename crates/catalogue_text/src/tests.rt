@@ -3,8 +3,7 @@ use super::*;
 use std::alloc::{AllocError, Global};
 use std::test::Fail;
 
-const EMPTY: &str =
-    "aptly root 0\nknown 0\nmirrors 0\nrepos 0\nsnapshots 0\npublications 0\nend\n";
+const EMPTY: &str = "aptly root 0\nknown 0\nmirrors 0\nrepos 0\nsnapshots 0\npublications 0\nend\n";
 
 const LOCAL: &str =
     "aptly root 0\nknown 0\nmirrors 0\nrepos 1\nrepo local\ncomment\ndistribution\ncomponent main\nset 0\nsnapshots 0\npublications 0\nend\n";
@@ -38,8 +37,7 @@ const LARGE: &str =
 fn root_of(alloc: Global, known: &str, set: &str) -> Result<String, AllocError> {
     format!(in alloc;
         "aptly root 0\n{}mirrors 0\nrepos 1\nrepo local\ncomment\ndistribution\ncomponent main\n{}snapshots 0\npublications 0\nend\n",
-        known,
-        set
+        known, set
     )
 }
 
@@ -61,7 +59,8 @@ fn roots_are_read_and_written(rt: HostRuntime) -> Result<(), Fail> {
     assert!(rt; is_read_back(alloc, text.as_str())?);
     let state = read_root(alloc, text.as_bytes())?;
     assert_eq!(rt; state.known.len(), 2);
-    assert_eq!(rt; state.repos[0].list.len(), 1);
+    let members = state.repos.first().map_or(0, |repo| repo.list.len());
+    assert_eq!(rt; members, 1);
     Ok(())
 }
 
@@ -152,7 +151,7 @@ fn a_bad_package_or_member_has_its_line(rt: HostRuntime) -> Result<(), Fail> {
     }
     // The bytes end one before the end of a package's text.
     let text = format!(in alloc; "aptly root 0\nknown 1\n{}", hello.as_str())?;
-    let front = &text.as_bytes()[..text.len() - 1];
+    let (_, front) = text.as_bytes().split_last().ok_or("no bytes")?;
     let cut = matches!(read_root(alloc, front), Err(RootFault::At { line: 3 }));
     assert!(rt; cut);
     Ok(())

@@ -98,10 +98,7 @@ pub(crate) fn name_line<'a>(
 }
 
 /// A line with the comment on a repository.
-pub(crate) fn comment_line(
-    alloc: Global,
-    text: &[u8],
-) -> Result<Option<(Text, &[u8])>, AllocError>
+pub(crate) fn comment_line(alloc: Global, text: &[u8]) -> Result<Option<(Text, &[u8])>, AllocError>
     ensures { IfOk result (λ found. MatchOption found (NoLine comment_spelled IsLineText text.now) (λ p. ReadsLine comment_spelled IsLineText text.now p.0 p.1.now)) }
 {
     match key_line(text, "comment") {

@@ -2,7 +2,6 @@
 use Rattle.std.proofs.Common.{◌≡◌, List, [], ◌∷◌, ◌++◌, Bool, true, false, not, ◌||◌, take, drop, length, refl, sym, ap, ◌∙◌, subst, Ordering, Less, Equal, Greater, IsTrue, IsFalse, ◌↔◌, map}
 use Rattle.std.specs.Ordering.{is_lt}
 use Rattle.std.specs.Cmp.{IsTotalOrder}
-use Rattle.std.specs.Rc.{rc_value}
 use Rattle.std.proofs.lemmas.List.{map-append}
 use Rattle.package_core.specs.declared.package.Package.{Package}
 use Rattle.package_core.specs.Order.{package_cmp, same_triple}

@@ -1,5 +1,4 @@
 use Rattle.std.proofs.Common.{subst}
-use Rattle.package_core.specs.Card.{Card}
 use Rattle.package_core.specs.Order.{package_cmp}
 use Rattle.package_list.specs.Sorted.{AllLess}
 use Rattle.catalogue_text.proofs.ValueLemmas.{at_some}

@@ -1,7 +1,7 @@
-use Rattle.std.proofs.Common.{arith, sym, ap, ◌∙◌, ◌≤◌, ◌<◌, ◌^◌, ◌++◌, ◌≡◌, ℕ, List, length}
+use Rattle.std.proofs.Common.{arith, sym, ◌++◌, ◌≡◌, ℕ, List, length}
 use Rattle.package_core.specs.Card.{Card, package_text}
 use Rattle.catalogue_text.specs.Pieces.{packed, Begins}
-use Rattle.catalogue_text.proofs.ValueLemmas.{at_none, at_some, at_default}
+use Rattle.catalogue_text.proofs.ValueLemmas.{at_some, at_default}
 use Rattle.catalogue_text.proofs.KnownLemmas.{front_short, front_line, rest_of, own_text, begins_with, textual, read_text_is, read_only}
 use Rattle.catalogue_text.proofs.known.package_at.Goals as goal
 

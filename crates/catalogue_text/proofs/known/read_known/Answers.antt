@@ -1,5 +1,3 @@
-use Rattle.std.proofs.Common.{◌≡◌}
-use Rattle.catalogue_text.specs.Reading.{Stops, ReadsSeries, ReadsPart}
 use Rattle.catalogue_text.proofs.ValueLemmas.{at_default, at_some}
 use Rattle.catalogue_text.proofs.ReadLemmas.{known_first, known_count, known_rest, known_read, if_ok, if_stop}
 use Rattle.catalogue_text.proofs.known.read_known.Goals as goal

@@ -1,9 +1,9 @@
-use Rattle.std.proofs.Common.{◌≡◌, refl, arith}
+use Rattle.std.proofs.Common.{refl, arith}
 use Rattle.package_core.specs.Order.{package_cmp}
 use Rattle.package_list.specs.Sorted.{AllLess}
 use Rattle.catalogue_text.proofs.RootParts.{package_pieces}
 use Rattle.catalogue_text.proofs.ValueLemmas.{at_none, at_some}
-use Rattle.catalogue_text.proofs.ReadLemmas.{IsRead, reads_more, stops_packages}
+use Rattle.catalogue_text.proofs.ReadLemmas.{reads_more, stops_packages}
 use Rattle.catalogue_text.proofs.known.read_packages.Goals as goal
 
 pub returns-in-None-clause-stops : goal.returns-in-None-clause-stops

@@ -1,4 +1,4 @@
-use Rattle.std.proofs.Common.{◌≡◌, sym, ◌∙◌}
+use Rattle.std.proofs.Common.{sym, ◌∙◌}
 use Rattle.std.proofs.lemmas.Bool.{true≢false}
 use Rattle.catalogue_text.proofs.ReadLemmas.{last_first, last_second, last_third, last_read}
 use Rattle.catalogue_text.proofs.read.read_last.Goals as goal

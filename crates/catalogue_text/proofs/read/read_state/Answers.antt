@@ -1,4 +1,3 @@
-use Rattle.std.proofs.Common.{◌≡◌}
 use Rattle.catalogue_text.proofs.ReadLemmas.{if_before}
 use Rattle.catalogue_text.proofs.StateLemmas.{stops_in_known, stops_in_repos, stops_in_last, stops_at_end, found_state}
 use Rattle.catalogue_text.proofs.read.read_state.Goals as goal

@@ -1,4 +1,3 @@
-use Rattle.std.proofs.Common.{◌≡◌}
 use Rattle.catalogue_text.proofs.ReadLemmas.{follows_last}
 use Rattle.catalogue_text.proofs.repos.follows.Goals as goal
 

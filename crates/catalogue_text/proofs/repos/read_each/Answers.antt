@@ -1,4 +1,4 @@
-use Rattle.std.proofs.Common.{◌≡◌, [], List, ℕ, sym, subst, arith}
+use Rattle.std.proofs.Common.{[], List, sym, subst, arith}
 use Rattle.machine_state.specs.declared.repo.Repo.{Repo}
 use Rattle.machine_state.specs.Ascending.{IsAscending}
 use Rattle.machine_state.specs.State.{repo_cmp}
@@ -6,7 +6,7 @@ use Rattle.catalogue_text.specs.Root.{repo_pieces}
 use Rattle.catalogue_text.specs.Grammar.{NextRepo}
 use Rattle.catalogue_text.specs.Reading.{Stops, GoodRepo}
 use Rattle.catalogue_text.proofs.RootTexts.{names_each}
-use Rattle.catalogue_text.proofs.ReadLemmas.{IsRead, reads_more, stops_repos, if_before}
+use Rattle.catalogue_text.proofs.ReadLemmas.{reads_more, stops_repos, if_before}
 use Rattle.catalogue_text.proofs.repos.read_each.Goals as goal
 
 pub read_repo-requires-clause-sorted : goal.read_repo-requires-clause-sorted

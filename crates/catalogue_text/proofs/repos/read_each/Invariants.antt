@@ -1,7 +1,5 @@
 use Rattle.std.proofs.Common.{◌≡◌, [], length}
 use Rattle.std.specs.List.{flat_map}
-use Rattle.machine_state.specs.Ascending.{IsAscending}
-use Rattle.machine_state.specs.State.{repo_cmp}
 use Rattle.catalogue_text.specs.Pieces.{Takes}
 use Rattle.catalogue_text.specs.Root.{repo_pieces}
 use Rattle.catalogue_text.specs.Reading.{Each, GoodRepo}

@@ -1,4 +1,3 @@
-use Rattle.std.proofs.Common.{◌≡◌, length}
 use Rattle.machine_state.specs.State.{IsLineText}
 use Rattle.catalogue_text.specs.Root.{name_line, comment_line, distribution_line, component_line}
 use Rattle.catalogue_text.specs.Grammar.{IsNext}

@@ -1,4 +1,3 @@
-use Rattle.std.proofs.Common.{◌≡◌}
 use Rattle.catalogue_text.proofs.ValueLemmas.{at_default, at_some}
 use Rattle.catalogue_text.proofs.ReadLemmas.{repos_first, repos_count, repos_rest, repos_read, if_ok, if_stop}
 use Rattle.catalogue_text.proofs.repos.read_repos.Goals as goal

@@ -1,4 +1,3 @@
-use Rattle.std.proofs.Common.{◌≡◌}
 use Rattle.catalogue_text.proofs.ReadLemmas.{no_member, place_inside, joins, joins_not}
 use Rattle.catalogue_text.proofs.sets.next_member.Goals as goal
 

@@ -1,8 +1,8 @@
-use Rattle.std.proofs.Common.{◌≡◌, refl, arith}
+use Rattle.std.proofs.Common.{refl, arith}
 use Rattle.catalogue_text.specs.Grammar.{MayJoin}
 use Rattle.catalogue_text.proofs.RootParts.{member_pieces}
 use Rattle.catalogue_text.proofs.ValueLemmas.{at_none, at_some}
-use Rattle.catalogue_text.proofs.ReadLemmas.{IsRead, reads_more, stops_members}
+use Rattle.catalogue_text.proofs.ReadLemmas.{reads_more, stops_members}
 use Rattle.catalogue_text.proofs.sets.read_members.Goals as goal
 
 pub returns-in-None-clause-stops : goal.returns-in-None-clause-stops

@@ -1,4 +1,3 @@
-use Rattle.std.proofs.Common.{◌≡◌}
 use Rattle.catalogue_text.proofs.ValueLemmas.{at_default, at_some}
 use Rattle.catalogue_text.proofs.ReadLemmas.{set_count, set_rest, set_read, if_ok, if_stop}
 use Rattle.catalogue_text.proofs.sets.read_set.Goals as goal

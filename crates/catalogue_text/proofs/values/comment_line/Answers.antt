@@ -1,4 +1,4 @@
-use Rattle.std.proofs.Common.{List, ℕ, codes, sym, ◌∙◌, subst}
+use Rattle.std.proofs.Common.{codes, sym, ◌∙◌, subst}
 use Rattle.machine_state.specs.State.{IsLineText}
 use Rattle.catalogue_text.specs.Root.{blank_and}
 use Rattle.catalogue_text.proofs.RootParts.{settings_apart}

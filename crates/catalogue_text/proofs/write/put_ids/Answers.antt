@@ -1,5 +1,5 @@
 use Rattle.std.proofs.Common.{string_bytes}
-use Rattle.catalogue_text.specs.Pieces.{alone, packed}
+use Rattle.catalogue_text.specs.Pieces.{alone}
 use Rattle.catalogue_text.specs.Root.{id_of}
 use Rattle.catalogue_text.proofs.WriteLemmas.{put_more}
 use Rattle.catalogue_text.proofs.write.put_ids.Goals as goal

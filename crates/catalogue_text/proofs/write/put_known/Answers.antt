@@ -1,4 +1,4 @@
-use Rattle.std.proofs.Common.{◌≡◌, ◌++◌, ◌∙◌, ap, map, string_bytes}
+use Rattle.std.proofs.Common.{◌++◌, ◌∙◌, ap, map, string_bytes}
 use Rattle.catalogue_text.specs.Pieces.{alone, packed, piece_text}
 use Rattle.catalogue_text.specs.Root.{known_line, known_pieces, joined}
 use Rattle.catalogue_text.proofs.WriteLemmas.{on_ok, then_two}

@@ -1,4 +1,4 @@
-use Rattle.std.proofs.Common.{◌≡◌, ◌++◌, ◌∙◌, ap, codes, string_bytes}
+use Rattle.std.proofs.Common.{◌++◌, ◌∙◌, ap, codes, string_bytes}
 use Rattle.catalogue_text.specs.Pieces.{alone, piece_text}
 use Rattle.catalogue_text.specs.Root.{blank_and, name_line, comment_line, component_line, repo_pieces, set_pieces, joined}
 use Rattle.catalogue_text.proofs.WriteLemmas.{on_ok, then_four}

@@ -1,4 +1,4 @@
-use Rattle.std.proofs.Common.{◌≡◌, ◌++◌, string_bytes}
+use Rattle.std.proofs.Common.{string_bytes}
 use Rattle.std.specs.List.{flat_map}
 use Rattle.catalogue_text.specs.Root.{repo_pieces, repos_pieces, joined}
 use Rattle.catalogue_text.proofs.WriteLemmas.{on_ok, then_two}

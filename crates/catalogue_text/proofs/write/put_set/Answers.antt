@@ -1,4 +1,4 @@
-use Rattle.std.proofs.Common.{◌≡◌, ◌++◌, ◌∙◌, ap, map, string_bytes}
+use Rattle.std.proofs.Common.{◌++◌, ◌∙◌, ap, map, string_bytes}
 use Rattle.catalogue_text.specs.Pieces.{alone, piece_text}
 use Rattle.catalogue_text.specs.Root.{id_of, set_line, set_pieces, joined}
 use Rattle.catalogue_text.proofs.WriteLemmas.{on_ok, then_one}

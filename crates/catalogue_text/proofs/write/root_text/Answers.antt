@@ -1,4 +1,4 @@
-use Rattle.std.proofs.Common.{◌≡◌, ◌∙◌, ◌++◌, ap, string_bytes}
+use Rattle.std.proofs.Common.{◌∙◌, ◌++◌, ap, string_bytes}
 use Rattle.machine_state.specs.Values.{StateView}
 use Rattle.catalogue_text.specs.Root.{joined, repos_pieces, root_text}
 use Rattle.catalogue_text.proofs.ReadLemmas.{if_ok}

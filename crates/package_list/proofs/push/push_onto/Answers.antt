@@ -1,4 +1,4 @@
-use Rattle.std.proofs.Common.{map, ap, ◌∙◌, ◌++◌, ◌∷◌, [], ◌≡◌}
+use Rattle.std.proofs.Common.{map, ap, ◌∙◌, ◌++◌, ◌∷◌, []}
 use Rattle.std.specs.Rc.{rc_value}
 use Rattle.package_list.proofs.Pushes.{pushed_ascending, mapped_push}
 use Rattle.package_list.proofs.push.push_onto.Goals as goal

@@ -1,12 +1,12 @@
-use Rattle.std.proofs.Common.{Some, ap, sym, ◌∙◌, ◌++◌, ◌∷◌, [], ◌↔◌, IsTrue, All, List, ℕ, arith, length, length-append, cond, if◌then◌else◌, subst, refl, string_bytes}
+use Rattle.std.proofs.Common.{ap, sym, ◌∙◌, ◌++◌, ◌∷◌, [], ◌↔◌, IsTrue, All, List, ℕ, length, if◌then◌else◌, subst, string_bytes}
 use Rattle.std.specs.BTreeMap.{get_by_text}
 use Rattle.std.proofs.lemmas.Map.Text.{btree_map_updates_text}
-use Rattle.package_core.specs.Card.{Card, package_text}
+use Rattle.package_core.specs.Card.{Card}
 use Rattle.package_core.specs.Order.{package_cmp}
 use Rattle.package_core.proofs.OrderLaws.{package_total}
 use Rattle.package_list.specs.Sorted.{IsAscending}
 use Rattle.package_list.proofs.Pushes.{ascending_push}
-use Rattle.catalogue_text.specs.Reading.{IsIndexed, IsSmall, PlaceIs, RoomIs}
+use Rattle.catalogue_text.specs.Reading.{IsSmall, PlaceIs, RoomIs}
 use Rattle.catalogue_text.proofs.KnownLemmas.{places_push, key_is, last_place}
 use Rattle.catalogue_text.proofs.known.Known.push.Goals as goal
 
