@@ -145,7 +145,7 @@ fn set_root<H: Host>(
 {
     let root = SafePath::fixed(alloc, ROOT)?;
     let name = stage.lay(host, text.as_bytes())?;
-    stage.place(host, name, &root)?; let again = stage.lay(host, text.as_bytes())?; stage.place(host, again, &root)?;
+    stage.place(host, name, &root)?;
     stage.barrier(host)
 }
 
