@@ -19,15 +19,18 @@ use Rattle.package_list.specs.Lists.{union}
 use Rattle.local_repo.specs.Arrival.{list_of}
 use Rattle.local_repo.specs.Fits.{added}
 use Rattle.machine_step.specs.Step.{Came, Step, new_repo, refused, added_reply, taken_in, done, came_to}
+use Rattle.local_repo.proofs.EntryLemmas.{listed_packages}
+use Rattle.local_repo.proofs.LawLemmas.{arrives_fit}
+use Rattle.local_repo.proofs.TotalLemmas.{some_arrives}
 use Rattle.machine_step.proofs.LawLemmas.{Fit, Some_arrives, says_step, valid_step, total_step}
 use Rattle.aptly_core.specs.Machine.{machine, came, Steps}
 
 -- what arrives fits, and of each folder something arrives
 fits : Fit
-fits = ?
+fits = arrives_fit listed_packages
 
 arrives : Some_arrives
-arrives = ?
+arrives = some_arrives
 
 -- an outcome as one of a run
 abbrev pub outcome_of : Came → Outcome StateView Refusal

@@ -1,7 +1,7 @@
 //! A store, an inbox and patterns in memory, and calls over them.
 use ap_host::{Bytes, MemHost, MemInbox, Op};
 use ap_text::SafePath;
-use aptly_core::{Status, aptly};
+use aptly_core::{Damage, Status, aptly};
 use command_words::Words;
 use query_eval::MemPatterns;
 use std::alloc::{AllocError, Global};
@@ -9,26 +9,9 @@ use std::alloc::{AllocError, Global};
 /// Seconds since 1970.
 const NOW: i64 = 1507969667;
 
-/// The digests of the package file `abc`, each without its last digit.
-const MD5: &str = "900150983cd24fb0d6963f7d28e17f7";
-const SHA1: &str = "a9993e364706816aba3e25717850c26c9cd0d89";
-const SHA256: &str = "ba7816bf8f01cfea414140de5dae2223b00361a396177a9cb410ff61f20015a";
-
-/// An index with one package, as dpkg-scanpackages writes it.
-pub fn stanza(
-    alloc: Global,
-    depends: &str,
-    filename: &str,
-    digit: &str,
-    section: &str,
-) -> Result<String, AllocError> {
-    format!(in alloc; "Package: hello\nVersion: 2.10-2\nArchitecture: amd64\nMaintainer: Example Maintainer <maint@example.org>\nInstalled-Size: 280\nDepends: {depends}\nFilename: {filename}\nSize: 3\nMD5sum: {MD5}2\nSHA1: {SHA1}d\nSHA256: {SHA256}{digit}\nSection: {section}\nPriority: optional\nDescription: example package based on GNU hello\n The program produces a familiar greeting.\n .\n It serves as an example.\n\n")
-}
-
-/// The same, as it is used most.
-pub fn hello(alloc: Global) -> Result<String, AllocError> {
-    stanza(alloc, "libc6 (>= 2.14)", "./hello_2.10-2_amd64.deb", "d", "devel")
-}
+/// An index with one package, as dpkg-scanpackages writes it, without the last empty line.
+pub const HELLO: &str =
+    "Package: hello\nVersion: 2.10-2\nArchitecture: amd64\nMaintainer: Example Maintainer <maint@example.org>\nInstalled-Size: 280\nDepends: libc6 (>= 2.14)\nFilename: ./hello_2.10-2_amd64.deb\nSize: 3\nMD5sum: 900150983cd24fb0d6963f7d28e17f72\nSHA1: a9993e364706816aba3e25717850c26c9cd0d89d\nSHA256: ba7816bf8f01cfea414140de5dae2223b00361a396177a9cb410ff61f20015ad\nSection: devel\nPriority: optional\nDescription: example package based on GNU hello\n The program produces a familiar greeting.\n .\n It serves as an example.\n";
 
 /// A store with no file.
 pub fn empty_host(alloc: Global, failing: Vec<u64>) -> Result<MemHost, AllocError> {
@@ -45,15 +28,16 @@ pub fn inbox_of(alloc: Global, index: &str, failing: Vec<u64>) -> Result<MemInbo
     Ok(MemInbox::new(files, failing))
 }
 
+/// The words of a text, which stand apart by single blanks.
 fn words_of(alloc: Global, text: &str) -> Result<Words, AllocError> {
     let mut words = Words::new(alloc);
-    for word in text.split(' ') {
+    for word in text.split_whitespace() {
         words.push(word)?;
     }
     Ok(words)
 }
 
-/// One call of these words, which stand apart by single blanks.
+/// One call of these words.
 pub fn call(
     alloc: Global,
     host: &mut MemHost,
@@ -63,21 +47,6 @@ pub fn call(
     let words = words_of(alloc, text)?;
     let mut patterns = MemPatterns::new(alloc, Vec::new(alloc));
     Ok(aptly(alloc, &words, NOW, host, inbox, &mut patterns))
-}
-
-/// One call of these words and one more, which may have blanks.
-pub fn ask(
-    alloc: Global,
-    host: &mut MemHost,
-    text: &str,
-    query: &str,
-    failing: Vec<u64>,
-) -> Result<Status, AllocError> {
-    let mut words = words_of(alloc, text)?;
-    words.push(query)?;
-    let mut inbox = MemInbox::new(Vec::new(alloc), Vec::new(alloc));
-    let mut patterns = MemPatterns::new(alloc, failing);
-    Ok(aptly(alloc, &words, NOW, host, &mut inbox, &mut patterns))
 }
 
 /// What was said, from this operation on.
@@ -91,20 +60,88 @@ pub fn said(alloc: Global, host: &MemHost, from: usize) -> Result<Vec<u8>, Alloc
     Ok(text)
 }
 
+fn kind(op: &Op) -> &'static str {
+    match op {
+        Op::Create(_) => "c",
+        Op::Append(_, _) => "a",
+        Op::Sync(_) => "s",
+        Op::Rename(_, _) => "r",
+        Op::Remove(_) => "d",
+        Op::Barrier => "B",
+        Op::Say(_) => "S",
+        Op::Claim(_) => "C",
+    }
+}
+
 /// A letter for each operation, from this one on.
-pub fn kinds(alloc: Global, host: &MemHost, from: usize) -> Result<String, AllocError> {
+fn kinds(alloc: Global, host: &MemHost, from: usize) -> Result<String, AllocError> {
     let mut text = String::new(alloc);
     for op in host.log().iter().skip(from) {
-        text.push_str(match op {
-            Op::Create(_) => "c",
-            Op::Append(_, _) => "a",
-            Op::Sync(_) => "s",
-            Op::Rename(_, _) => "r",
-            Op::Remove(_) => "d",
-            Op::Barrier => "B",
-            Op::Say(_) => "S",
-            Op::Claim(_) => "C",
-        })?;
+        text.push_str(kind(op))?;
     }
     Ok(text)
+}
+
+/// The line of the root that is told to be damaged.
+fn damaged_line(status: &Status) -> u64 {
+    match status {
+        Status::Damaged(Damage::Unreadable { line, .. }) => *line,
+        _ => 0,
+    }
+}
+
+/// What a call came to.
+#[derive(Drop)]
+pub struct Answer {
+    /// The exit code.
+    pub code: u8,
+    /// The line that is damaged, or 0.
+    pub line: u64,
+    /// A letter for each operation.
+    pub log: String,
+    /// What was said.
+    pub text: Vec<u8>,
+}
+
+fn answered(
+    alloc: Global,
+    host: &MemHost,
+    from: usize,
+    status: &Status,
+) -> Result<Answer, AllocError> {
+    Ok(Answer {
+        code: status.code(),
+        line: damaged_line(status),
+        log: kinds(alloc, host, from)?,
+        text: said(alloc, host, from)?,
+    })
+}
+
+/// One call of these words, over an inbox with this index.
+pub fn answer_to(
+    alloc: Global,
+    host: &mut MemHost,
+    index: &str,
+    words: &str,
+) -> Result<Answer, AllocError> {
+    let from = host.log().len();
+    let mut inbox = inbox_of(alloc, index, Vec::new(alloc))?;
+    let status = call(alloc, host, &mut inbox, words)?;
+    answered(alloc, host, from, &status)
+}
+
+/// A search for packages, over patterns of which these calls refuse theirs for its size.
+pub fn search(
+    alloc: Global,
+    host: &mut MemHost,
+    query: &str,
+    failing: Vec<u64>,
+) -> Result<Answer, AllocError> {
+    let from = host.log().len();
+    let mut words = words_of(alloc, "package search")?;
+    words.push(query)?;
+    let mut inbox = inbox_of(alloc, "", Vec::new(alloc))?;
+    let mut patterns = MemPatterns::new(alloc, failing);
+    let status = aptly(alloc, &words, NOW, host, &mut inbox, &mut patterns);
+    answered(alloc, host, from, &status)
 }

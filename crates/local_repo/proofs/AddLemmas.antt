@@ -112,11 +112,11 @@ fitting_fits state name own list v e f =
 
 -- ---- the log
 pub adds_list : (map : Option Files) (known list : List Card) (date : List ℕ) (s t : StageState) (l : Log) (a : List Op) → AddsAll map known (Ok list) s t l a → Adds map known (Ok (arrivals.List list date)) s t l a
-adds_list map known list date s t l a h = record { grows = h.grows; marked = h.marked; step = h.step; bodies = λ f told named all apart. h.bodies f told named apart all }
+adds_list map known list date s t l a h = record { grows = h.grows; marked = h.marked; step = h.step; fills = h.fills; bodies = λ f told named all apart. h.bodies f told named apart all }
 
 pub adds_fails : (map : Option Files) (known : List Card) (r : Result (List Card) UpdateFault) (out : Result Arrived UpdateFault) (s t : StageState) (l : Log) (a : List Op) → IsErr out → AddsAll map known r s t l a → Adds map known out s t l a
 adds_fails map known r (Ok x) s t l a e h = absurd (let no : false ≡ true = e in cc)
-adds_fails map known r (Err x) s t l a e h = record { grows = h.grows; marked = h.marked; step = h.step; bodies = tt }
+adds_fails map known r (Err x) s t l a e h = record { grows = h.grows; marked = h.marked; step = h.step; fills = h.fills; bodies = tt }
 
 pub adds_nothing : (map : Option Files) (known : List Card) (out : Result Arrived UpdateFault) (s : StageState) (l : Log) → IsErr out → Adds map known out s s l []
 adds_nothing map known out s l e = adds_fails map known (Err faults.OutOfMemory) out s s l [] e (all_nothing map known (Err faults.OutOfMemory) s l refl)

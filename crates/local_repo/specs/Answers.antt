@@ -183,6 +183,7 @@ pub record Adds (inbox : Option Files) (known : List Card) (result : Result Arri
   pub grows : PoolGrows l ops
   pub marked : IsMarked old new ops
   pub step : IsInStep old l → IsInStep new (extended ops l)
+  pub fills : ForSome inbox (λ files. Fills files l (extended ops l))
   -- Where the pool is named by SHA-256 and has the known bodies, and no two of its files and the inbox's share a SHA-256, it has each
   -- body of the list.
   pub bodies : IfList result (λ list. ForSome inbox (λ files.

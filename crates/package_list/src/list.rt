@@ -84,10 +84,7 @@ impl PackageList {
     }
 
     /// The same of packages that are shared already, and go on being so.
-    pub fn from_shared(
-        alloc: Global,
-        packages: &[Rc<Package>],
-    ) -> Result<PackageList, ListFault>
+    pub fn from_shared(alloc: Global, packages: &[Rc<Package>]) -> Result<PackageList, ListFault>
         ensures { Answers result (join_answer (map rc_value packages.now)) }
     {
         let members = gathered(alloc, packages)?;

@@ -1,6 +1,6 @@
 use Rattle.std.proofs.Common.{List, ℕ, Some, Ok, Err, sym, ◌∙◌, ap, subst}
 use Rattle.std.proofs.lemmas.Result.{err_from_is_err_and}
-use Rattle.ap_host.specs.Disk.{Path, live_of}
+use Rattle.ap_host.specs.Disk.{live_of}
 use Rattle.aptly_core.specs.Store.{IsLoadOf}
 use Rattle.aptly_core.proofs.LoadLemmas.{loads_fault, loads_files}
 use Rattle.aptly_core.proofs.catalogue_root.load.Goals as goal

@@ -1,4 +1,4 @@
-use Rattle.std.proofs.Common.{sym, ◌∙◌}
+use Rattle.std.proofs.Common.{sym}
 use Rattle.ap_host.specs.Disk.{live_of}
 use Rattle.aptly_core.proofs.LoadLemmas.{other_size}
 use Rattle.aptly_core.proofs.catalogue_root.look_for.Goals as goal

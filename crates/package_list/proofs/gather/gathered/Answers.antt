@@ -22,9 +22,10 @@ loop-package-preserved c =
     let x : Card = c.package-item.result.value in
     let same : c.new.result ≡ x = c.new.ensures ∙ c.in_ok-clone.ensures.cases in
     let here : drop i all ≡ x ∷ drop (i + 1) all = drop_at_member rc_value c.args.packages.now i c.package-item.result (omega arith) c.package-item.is in
-    let took : take (i + 1) all ≡ take i all ++ x ∷ [] = ap (λ n. take n all) (add-one i) ∙ taken_on all i x (drop (i + 1) all) here in
-    (c.in_ok-gather_one.ensures.ok ∙ (λ k. put package_cmp (c.loop-package.invariant.0 k) (same k)) ∙ sym (union_push package_cmp [] (take i all) x) ∙ ap joined (sym took)
-    , ap (λ l. first_refusal l (drop (i + 1) all)) took ∙ goes_on (take i all) (drop (i + 1) all) x _ _ (ap (first_refusal (take i all)) (sym here) ∙ c.loop-package.invariant.1) ((λ k. insert_answer (sym c.loop-package.invariant.0 k) (sym same k)) ∙ c.in_ok-gather_one.ensures.answer))
+    let took : take (i + 1) all ≡ take i all ++ x ∷ [] = ap (λ n. take n all) (add-one i) ∙ taken_on all i x (drop (i + 1) all) here in (
+      c.in_ok-gather_one.ensures.ok ∙ (λ k. put package_cmp (c.loop-package.invariant.0 k) (same k)) ∙ sym (union_push package_cmp [] (take i all) x) ∙ ap joined (sym took),
+      ap (λ l. first_refusal l (drop (i + 1) all)) took ∙ goes_on (take i all) (drop (i + 1) all) x _ _ (ap (first_refusal (take i all)) (sym here) ∙ c.loop-package.invariant.1) ((λ k. insert_answer (sym c.loop-package.invariant.0 k) (sym same k)) ∙ c.in_ok-gather_one.ensures.answer),
+    )
 
 pub returns-in_err-gather_one : goal.returns-in_err-gather_one
 returns-in_err-gather_one c =
