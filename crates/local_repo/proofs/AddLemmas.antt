@@ -1,7 +1,6 @@
 -- A folder arrives: what is told of it, and that it fits.
-use Rattle.std.proofs.Common.{◌≡◌, ◌⊎◌, inl, inr, ℕ, ◌≤◌, Bool, true, false, cond, List, [], length, Option, Some, None, Result, Ok, Err, refl, sym, ap, ◌∙◌, subst, IfOk, arith, nat_lt, ltb-false}
+use Rattle.std.proofs.Common.{◌≡◌, inl, inr, ℕ, ◌≤◌, Bool, true, false, cond, List, [], length, Option, Some, None, Result, Ok, Err, refl, sym, ap, ◌∙◌, subst, nat_lt, ltb-false}
 use Rattle.std.specs.Result.{IsErr}
-use Rattle.std.specs.Option.{ForSome}
 use Rattle.ap_host.specs.declared.host.Op.{Op}
 use Rattle.ap_host.specs.Disk.{Path, Files, Log}
 use Rattle.stage_file.specs.Stage.{StageState}
@@ -9,7 +8,6 @@ use Rattle.package_core.specs.Card.{Card}
 use Rattle.package_list.specs.declared.fault.ListFault.{ListFault}
 use Rattle.package_list.specs.Lists.{union}
 use Rattle.package_list.specs.Answers.{append_answer}
-use Rattle.index_text.specs.Index.{Lists}
 use Rattle.machine_state.specs.declared.limit.Limit.TheVariants.{Packages, Known, Catalogue}
 use Rattle.machine_state.specs.declared.refusal.Refusal.{Refusal}
 use Rattle.machine_state.specs.declared.refusal.Refusal.TheVariants.{Limit}
@@ -20,7 +18,7 @@ use Rattle.machine_state.specs.declared.arrived.UpdateFault.TheVariants as fault
 use Rattle.machine_state.specs.Limits.{limit_number}
 use Rattle.machine_state.specs.State.{Valid, text_length}
 use Rattle.machine_state.specs.Values.{StateView}
-use Rattle.local_repo.specs.Arrival.{Entry, Arrives, BytesArrive, and_then, or_refused, check_answer, within_catalogue, known_answer, entries_arrive, index_bytes, index_path, list_of}
+use Rattle.local_repo.specs.Arrival.{Entry, Arrives, BytesArrive, or_refused, check_answer, within_catalogue, known_answer, entries_arrive, list_of}
 use Rattle.local_repo.specs.Fits.{FitsIn, Fitting}
 use Rattle.local_repo.specs.Answers.{FaultGives, IsAnyFault, IsInputFault, IsArrival, IsListed, IsUnlisted, Comes, Adds, AddsAll}
 use Rattle.local_repo.proofs.FitLemmas.{taken_fits}

@@ -1,6 +1,6 @@
 -- The steps of an arrival, joined.
-use Rattle.std.proofs.Common.{◌≡◌, ◌⊎◌, inl, inr, ℕ, ◌+◌, ◌≤◌, Bool, true, false, cond, List, [], ◌∷◌, ◌++◌, map, length, Option, Some, None, IsSome, unwrap_or, Result, Ok, Err, refl, sym, ap, ◌∙◌, subst, arith, find, length-append, nat_lt, ltb-false}
-use Rattle.std.specs.Option.{option_map, ForSome}
+use Rattle.std.proofs.Common.{◌≡◌, ◌≤◌, Bool, true, false, cond, List, [], ◌∷◌, length, Option, Some, None, IsSome, unwrap_or, Result, Ok, Err, refl, sym, ap, ◌∙◌, subst, arith, find, length-append}
+use Rattle.std.specs.Option.{option_map}
 use Rattle.std.specs.Ordering.{is_eq}
 use Rattle.std.specs.List.{All, AllByRecursion}
 use Rattle.std.specs.BTreeMap.{BTreeMap, get}
@@ -11,26 +11,21 @@ use Rattle.package_core.specs.Whole.{IsSaid}
 use Rattle.package_core.specs.Order.{package_cmp}
 use Rattle.package_core.proofs.OrderLaws.{package_total}
 use Rattle.package_list.specs.declared.fault.ListFault.{ListFault}
-use Rattle.package_list.specs.Sorted.{IsAscending, equal_of, or_else}
-use Rattle.package_list.specs.Lists.{joined, union}
-use Rattle.package_list.specs.Answers.{join_answer, append_answer, err_or, first_refusal}
+use Rattle.package_list.specs.Sorted.{IsAscending, equal_of}
+use Rattle.package_list.specs.Lists.{joined}
+use Rattle.package_list.specs.Answers.{join_answer, err_or, first_refusal}
 use Rattle.package_list.proofs.SortedLemmas.{union_ascending}
 use Rattle.package_list.proofs.Unions.{equal_of_union}
-use Rattle.index_text.specs.Index.{ArePackages, IsAt, Lists}
+use Rattle.index_text.specs.Index.{ArePackages}
 use Rattle.machine_state.specs.declared.limit.Limit.{Limit as LimitKind}
-use Rattle.machine_state.specs.declared.limit.Limit.TheVariants.{Packages, Known, Catalogue}
+use Rattle.machine_state.specs.declared.limit.Limit.TheVariants.{Packages}
 use Rattle.machine_state.specs.declared.refusal.Refusal.{Refusal}
-use Rattle.machine_state.specs.declared.refusal.Refusal.TheVariants.{InputMalformed, Limit}
 use Rattle.machine_state.specs.declared.arrived.UpdateFault.{UpdateFault}
 use Rattle.machine_state.specs.declared.arrived.UpdateFault.TheVariants as faults
-use Rattle.machine_state.specs.Limits.{limit_number}
-use Rattle.machine_state.specs.State.{text_length}
-use Rattle.machine_state.specs.Values.{StateView}
-use Rattle.local_repo.specs.Arrival.{Entry, and_then, or_refused, list_refusal, cards_of, entry_for, path_of, taken, each_taken, check_answer, within_catalogue, known_answer, fitting, entries_arrive}
+use Rattle.local_repo.specs.Arrival.{Entry, and_then, or_refused, cards_of, entry_for, path_of, taken, each_taken, check_answer, fitting, entries_arrive}
 use Rattle.local_repo.specs.Answers.{Gives, FaultGives, AreShort}
 use Rattle.local_repo.specs.Files.{path_at}
-use Rattle.local_repo.proofs.ListLemmas.{by_places, each_of, all_map, all_union, each_itself}
-use Rattle.local_repo.proofs.TakenLemmas.{went_on}
+use Rattle.local_repo.proofs.ListLemmas.{by_places, all_map, all_union, each_itself}
 
 -- ---- packages that are joined
 pub joined_is : (limit : LimitKind) (cards list : List Card) → or_refused limit (join_answer cards) ≡ Ok list → list ≡ joined cards

@@ -1,12 +1,10 @@
 -- How many bytes digests have.
-use Rattle.std.proofs.Common.{◌≡◌, ℕ, zero, suc, ◌+◌, ◌*◌, ◌/◌, ◌%◌, ◌<◌, List, [], ◌∷◌, ◌++◌, length, refl, ◌∙◌, ap, arith, length-append}
+use Rattle.std.proofs.Common.{ℕ, zero, suc, ◌*◌, List, [], ◌∷◌, ◌++◌, refl, arith, length-append}
 use Rattle.std.specs.Prelude.{slice_index}
 use Rattle.std.specs.Int.{to_be_bytes, to_le_bytes, w32}
 use Rattle.sha1.specs.Sha1 as s1
 use Rattle.md5.specs.Md5 as m5
-use Rattle.sha2.specs.Sha256.{sha256}
 use Rattle.hex.specs.Hex.{IsBytes}
-use Rattle.hash_pool.proofs.NameLemmas as names
 use Rattle.package_core.specs.Whole.{IsDigest}
 
 bytes-append : (xs ys : List ℕ) → IsBytes xs → IsBytes ys → IsBytes (xs ++ ys)

@@ -1,32 +1,31 @@
 -- A list that is added to a repository.
-use Rattle.std.proofs.Common.{◌≡◌, ◌⊎◌, inl, inr, ℕ, suc, ◌≤◌, Bool, true, false, not, cond, ◌&&◌, ◌||◌, List, [], ◌∷◌, map, length, Option, Some, None, Result, Ok, Err, refl, sym, ap, ◌∙◌, subst, arith, nat_lt, find, IsTrue, IsFalse, Ordering, Less, Equal, Greater, ltb-false, true≢false}
-use Rattle.std.specs.Option.{IfSome}
+use Rattle.std.proofs.Common.{◌≡◌, ◌⊎◌, inl, inr, ℕ, suc, ◌≤◌, Bool, true, false, not, cond, ◌&&◌, ◌||◌, List, [], ◌∷◌, map, length, Option, Some, None, Result, Ok, Err, refl, sym, ap, ◌∙◌, subst, arith, nat_lt, find, Ordering, Less, Equal, Greater, ltb-false, true≢false}
 use Rattle.std.specs.Ordering.{is_eq, ordering_reverse, nat_cmp}
 use Rattle.std.specs.List.{All, AllByRecursion, list_any}
 use Rattle.std.specs.Str.{bytes_eq}
 use Rattle.std.specs.Cmp.Lexicographic.{slice_cmp}
 use Rattle.std.proofs.lemmas.Map.Text.{is_eq-slice_cmp}
-use Rattle.std.proofs.lemmas.Cmp.{tied_itself, alike_right, nat_list_cmp_total}
-use Rattle.package_core.specs.Card.{Card, package_text}
-use Rattle.package_core.specs.Order.{package_cmp, same_triple, triple_cmp}
+use Rattle.std.proofs.lemmas.Cmp.{alike_right, nat_list_cmp_total}
+use Rattle.package_core.specs.Card.{Card}
+use Rattle.package_core.specs.Order.{package_cmp, triple_cmp}
 use Rattle.package_core.specs.Whole.{IsWhole}
 use Rattle.package_core.proofs.OrderLaws.{package_total, triple_total, same_triple-is}
 use Rattle.package_list.specs.declared.fault.ListFault.{ListFault}
-use Rattle.package_list.specs.declared.fault.ListFault.TheVariants.{Conflict, Full}
+use Rattle.package_list.specs.declared.fault.ListFault.TheVariants.{Full}
 use Rattle.package_list.specs.Sorted.{IsAscending, equal_of, or_else}
-use Rattle.package_list.specs.Lists.{union, clash, clashes, has_member}
+use Rattle.package_list.specs.Lists.{union, clash, clashes}
 use Rattle.package_list.specs.Answers.{append_answer, conflict_or, first_clash, size_answer}
-use Rattle.package_list.proofs.SortedLemmas.{union_ascending, put_has}
+use Rattle.package_list.proofs.SortedLemmas.{union_ascending}
 use Rattle.package_list.proofs.Unions.{equal_of_union}
 use Rattle.machine_state.specs.declared.limit.Limit.TheVariants.{Packages, Known, Catalogue, File}
 use Rattle.machine_state.specs.declared.repo.Repo.{Repo}
 use Rattle.machine_state.specs.Ascending as plain
 use Rattle.machine_state.specs.Limits.{limit_number}
-use Rattle.machine_state.specs.State.{IsRepo, IsKnown, IsNamedList, IsCatalogue, Valid, has_clash, name_cmp, repo_cmp, repo_of, text_length}
+use Rattle.machine_state.specs.State.{IsRepo, IsKnown, IsNamedList, IsCatalogue, Valid, has_clash, repo_cmp, repo_of, text_length}
 use Rattle.machine_state.specs.Values.{StateView}
 use Rattle.local_repo.specs.Arrival.{list_in, list_of}
-use Rattle.local_repo.specs.Fits.{with_more, added, FitsIn, IsTaken, AreTaken}
-use Rattle.local_repo.proofs.ListLemmas.{by_places, each_of, all_map, all_union, found_holds, found_itself, found_alike, has_found, found_has, each_itself, AreEqual, ascending_alike}
+use Rattle.local_repo.specs.Fits.{with_more, FitsIn, IsTaken, AreTaken}
+use Rattle.local_repo.proofs.ListLemmas.{by_places, each_of, all_map, all_union, found_holds, each_itself, AreEqual, ascending_alike}
 
 -- ---- clashes
 and_flip : (a b c d : Bool) → a ≡ c → b ≡ d → (a && b) ≡ (c && d)
@@ -203,7 +202,7 @@ count_more name list [] = refl
 count_more name list (r ∷ rs) = ap (λ n. suc n) (count_more name list rs)
 
 -- a repository that comes after one of that name has another
-later_differs : (name : List ℕ) (r s : Repo) → bytes_eq r.name name ≡ true → repo_cmp r s ≡ Less → bytes_eq s.name name ≡ false
+pub later_differs : (name : List ℕ) (r s : Repo) → bytes_eq r.name name ≡ true → repo_cmp r s ≡ Less → bytes_eq s.name name ≡ false
 later_differs name r s e l = by_test (bytes_eq s.name name) refl
   where
     is_equal : (o : Ordering) → is_eq o ≡ true → o ≡ Equal
@@ -224,7 +223,7 @@ later_differs name r s e l = by_test (bytes_eq s.name name) refl
     by_test true h = absurd (never h)
     by_test false h = h
 
-same_more : (name : List ℕ) (list : List Card) (r : Repo) → bytes_eq r.name name ≡ false → with_more name list r ≡ r
+pub same_more : (name : List ℕ) (list : List Card) (r : Repo) → bytes_eq r.name name ≡ false → with_more name list r ≡ r
 same_more name list r e = ap (λ b. cond b (record r { list = union r.list list }) r) e
 
 -- behind the repository of that name the others are as they were

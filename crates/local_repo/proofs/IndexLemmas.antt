@@ -1,5 +1,5 @@
 -- The index of a folder, as it is read.
-use Rattle.std.proofs.Common.{◌∷◌, map, not, codes, leb, leb-true, ◌&&◌, subst, ◌≡◌, ℕ, ◌≤◌, ◌<◌, Bool, true, false, cond, List, [], length, take, Option, Some, None, unwrap_or, Result, Ok, Err, refl, sym, ap, ◌∙◌, nat_lt, arith, ltb-false, lt-ltb, le-ltb}
+use Rattle.std.proofs.Common.{◌∷◌, map, not, codes, leb-true, subst, ◌≡◌, ℕ, ◌≤◌, Bool, true, false, cond, List, [], length, take, Option, Some, None, unwrap_or, Ok, Err, refl, sym, ap, ◌∙◌, arith, le-ltb}
 use Rattle.std.proofs.Math.Seq.{take-length}
 use Rattle.std.specs.Prelude.{nat_le}
 use Rattle.std.specs.Option.{option_map, option_or}
@@ -13,7 +13,7 @@ use Rattle.package_core.specs.Faults.{first_missing, bad_identity, bad_path, bad
 use Rattle.package_core.specs.Card.{path_in}
 use Rattle.index_text.specs.Index.{AreEntries, Lists, entry_of}
 use Rattle.local_repo.specs.Answers.{AreShort}
-use Rattle.ap_host.specs.Disk.{Path, Content, Files}
+use Rattle.ap_host.specs.Disk.{Path, Content}
 use Rattle.hash_pool.specs.Reading.{IsReadTo}
 use Rattle.machine_state.specs.declared.limit.Limit.TheVariants.{Index}
 use Rattle.machine_state.specs.declared.refusal.Refusal.TheVariants.{Limit}

@@ -8,3 +8,7 @@ pub mod LogLemmas
 pub mod TextLemmas
 pub mod ArrivalLemmas
 pub mod AddLemmas
+pub mod StanzaLemmas
+pub mod EntryLemmas
+pub mod TotalLemmas
+pub mod LawLemmas

@@ -1,31 +1,31 @@
 -- What taking in one file does to the store.
-use Rattle.std.proofs.Common.{◌≡◌, ◌⊎◌, inl, inr, ℕ, Bool, true, false, cond, List, [], ◌∷◌, ◌++◌, Option, Some, None, IsSome, IsTrue, IsFalse, Result, Ok, Err, refl, sym, ap, ◌∙◌, subst, IfOk, All, OnOk}
+use Rattle.std.proofs.Common.{◌≡◌, ◌⊎◌, inl, inr, ℕ, Bool, true, false, List, [], ◌∷◌, ◌++◌, Option, Some, None, IsSome, Result, Ok, Err, refl, sym, ap, ◌∙◌, subst, IfOk, All, OnOk}
 use Rattle.std.specs.Result.{IsErr}
 use Rattle.std.specs.Option.{ForSome, IfSome, option_or, unwrap_or}
-use Rattle.std.specs.List.{AllByRecursion, find}
+use Rattle.std.specs.List.{AllByRecursion}
 use Rattle.std.specs.Str.{bytes_eq}
 use Rattle.std.proofs.lemmas.Slice.Eq.{bytes_eq-Decides}
 use Rattle.sha2.specs.Sha256.{sha256}
 use Rattle.ap_host.specs.declared.host.Op.{Op}
 use Rattle.ap_host.specs.Disk.{Path, Content, Files, Log, extended, live_of}
 use Rattle.ap_host.proofs.DiskLemmas.{extended-append, extended-none, Throughout-end}
-use Rattle.stage_file.specs.Stage.{StageState, IsMarked, IsInStep, is_staged}
+use Rattle.stage_file.specs.Stage.{StageState, IsMarked, IsInStep}
 use Rattle.digest_set.specs.declared.facts.Digests.{Digests}
 use Rattle.digest_set.specs.Facts.{digests_of}
 use Rattle.digest_set.specs.Difference.{difference}
-use Rattle.package_core.specs.Card.{Card, said_of, completed}
+use Rattle.package_core.specs.Card.{Card, completed}
 use Rattle.package_core.specs.Order.{package_cmp}
 use Rattle.package_core.proofs.OrderLaws.{package_total}
 use Rattle.package_list.specs.Sorted.{equal_of}
 use Rattle.hash_pool.specs.declared.fault.PoolFault.{PoolFault}
-use Rattle.hash_pool.specs.Names.{is_pooled, pool_name, IsDigest, IsNamed}
-use Rattle.hash_pool.specs.Growth.{PoolGrows, HasGrown}
+use Rattle.hash_pool.specs.Names.{pool_name, IsDigest, IsNamed}
+use Rattle.hash_pool.specs.Growth.{HasGrown}
 use Rattle.hash_pool.specs.Answers.{IsTaken}
 use Rattle.hash_pool.specs.Lodging.{Lodges, SetsOne, IsHeld}
 use Rattle.hash_pool.proofs.NameLemmas.{law_of_pool_names, pooled_not_staged, name_pooled, name_not_staged}
 use Rattle.hash_pool.proofs.GrowthLemmas.{law_of_growth, grows_none, grows_whole}
 use Rattle.machine_state.specs.declared.arrived.UpdateFault.{UpdateFault}
-use Rattle.local_repo.specs.Arrival.{compared, agreed, facts_of, known_of, standing}
+use Rattle.local_repo.specs.Arrival.{compared, agreed, known_of, standing}
 use Rattle.local_repo.specs.Bodies.{HasBody, IsMet, DigestsApart}
 use Rattle.local_repo.specs.Answers.{Gives, Fills, AddsOne, AddsAll}
 use Rattle.local_repo.proofs.ListLemmas.{by_places, each_of, found_holds}

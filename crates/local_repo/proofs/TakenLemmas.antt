@@ -1,21 +1,21 @@
 -- What comes of a package whose file has the stated facts.
-use Rattle.std.proofs.Common.{◌≡◌, ◌⊎◌, inl, inr, ℕ, ◌≤◌, ◌<◌, ◌^◌, Bool, true, false, cond, ◌&&◌, List, [], ◌∷◌, ◌++◌, length, Option, Some, None, is_some, unwrap_or, Result, Ok, Err, refl, sym, ap, ◌∙◌, subst, arith, nat_lt, nat_eq, eqb-true, find, Equal, lt-ltb, le-ltb}
+use Rattle.std.proofs.Common.{◌≡◌, inl, inr, ℕ, ◌≤◌, ◌<◌, ◌^◌, Bool, true, false, cond, List, [], ◌∷◌, ◌++◌, Option, Some, None, is_some, unwrap_or, Result, Ok, Err, refl, sym, ap, ◌∙◌, subst, nat_eq, eqb-true, find, Equal, lt-ltb, le-ltb}
 use Rattle.std.specs.Option.{IfSome, option_or}
 use Rattle.std.specs.Ordering.{ordering_reverse}
-use Rattle.std.specs.List.{All, AllByRecursion}
+use Rattle.std.specs.List.{AllByRecursion}
 use Rattle.std.specs.Str.{bytes_eq}
 use Rattle.std.specs.Fmt.{decimal}
 use Rattle.std.proofs.lemmas.Bool.{and_parts}
 use Rattle.hex.specs.Hex.{encode_lower}
-use Rattle.ap_host.specs.Disk.{Path, Content, Files}
+use Rattle.ap_host.specs.Disk.{Path, Files}
 use Rattle.digest_set.specs.declared.facts.Digests.{Digests}
 use Rattle.digest_set.specs.declared.facts.Said.{Said}
 use Rattle.digest_set.specs.declared.facts.What.{What}
-use Rattle.digest_set.specs.declared.facts.What.TheVariants.{Size, Sha256, Sha1, Md5}
+use Rattle.digest_set.specs.declared.facts.What.TheVariants.{Size, Sha256}
 use Rattle.digest_set.specs.Facts.{digests_of}
 use Rattle.digest_set.specs.Difference.{difference, otherwise}
-use Rattle.package_core.specs.Card.{Card, IsPackage, is_complete, said_of, completed}
-use Rattle.package_core.specs.Order.{package_cmp, HasTripleOf, IsTwin}
+use Rattle.package_core.specs.Card.{Card, IsPackage, completed}
+use Rattle.package_core.specs.Order.{package_cmp}
 use Rattle.package_core.specs.Whole.{IsDigest, IsSaid, IsWhole}
 use Rattle.package_core.proofs.PackageLemmas.{eq_bytes}
 use Rattle.package_core.proofs.OrderLaws.{package_total, packages_equal}
@@ -25,13 +25,13 @@ use Rattle.machine_state.specs.declared.refusal.Refusal.{Refusal}
 use Rattle.machine_state.specs.declared.refusal.Refusal.TheVariants.{Limit}
 use Rattle.machine_state.specs.Limits.{limit_number}
 use Rattle.machine_state.specs.State.{IsCatalogue}
-use Rattle.local_repo.specs.Arrival.{and_then, facts_of, agreed, compared, of_file, known_of, of_known_or_file, standing, taken, each_taken}
+use Rattle.local_repo.specs.Arrival.{and_then, facts_of, known_of, of_known_or_file, standing, taken, each_taken}
 use Rattle.machine_state.specs.declared.arrived.UpdateFault.{UpdateFault}
 use Rattle.machine_state.specs.declared.arrived.UpdateFault.TheVariants as faults
 use Rattle.local_repo.specs.Answers.{FaultGives, Tells}
 use Rattle.local_repo.specs.Fits.{IsTaken, AreTaken, IsCompleted, IfWhole}
 use Rattle.std.proofs.lemmas.Cmp.{tied_itself}
-use Rattle.local_repo.proofs.ListLemmas.{each_of, equal_is, found_holds, found_itself, found_equal, AreEqual}
+use Rattle.local_repo.proofs.ListLemmas.{each_of, found_holds, found_itself, found_equal, AreEqual}
 use Rattle.local_repo.proofs.DigestLemmas.{sha1_digest, md5_digest}
 
 -- ---- what doesn't differ

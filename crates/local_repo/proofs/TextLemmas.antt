@@ -1,8 +1,8 @@
 -- The length of the texts of some packages.
-use Rattle.std.proofs.Common.{◌≡◌, ℕ, ◌+◌, ◌≤◌, ◌<◌, List, [], ◌∷◌, ◌++◌, length, take, drop, map, get_or, refl, sym, ap, ◌∙◌, arith, subst, take-append-drop, add_assoc}
+use Rattle.std.proofs.Common.{◌≡◌, ℕ, ◌+◌, ◌≤◌, ◌<◌, List, [], ◌∷◌, ◌++◌, length, take, drop, map, get_or, sym, ap, ◌∙◌, arith, take-append-drop, add_assoc}
 use Rattle.package_core.specs.Card.{Card, package_text}
 use Rattle.machine_state.specs.State.{text_length}
-use Rattle.local_repo.proofs.ListLemmas.{next_taken, next_split}
+use Rattle.local_repo.proofs.ListLemmas.{next_taken}
 
 text_append : (xs ys : List Card) → text_length (xs ++ ys) ≡ text_length xs + text_length ys
 text_append [] ys = omega arith

@@ -1,9 +1,8 @@
-use Rattle.std.proofs.Common.{◌≡◌, List, Ok, refl, sym, ap, ◌∙◌, subst, subst₂}
+use Rattle.std.proofs.Common.{◌≡◌, Ok, refl, sym, ap, ◌∙◌, subst, subst₂}
 use Rattle.std.specs.Option.{option_copied}
 use Rattle.std.proofs.lemmas.Result.{err_from_is_err_and}
 use Rattle.ap_host.specs.Changes.{GoesOn}
 use Rattle.ap_host.proofs.ChangeLemmas.{GoesOn-map, GoesOn-none}
-use Rattle.package_core.specs.Card.{Card}
 use Rattle.machine_state.specs.State.{IsCatalogue}
 use Rattle.machine_state.specs.Values.{StateView}
 use Rattle.local_repo.specs.Arrival.{entries_arrive, list_in, list_of}

@@ -1,12 +1,11 @@
-use Rattle.std.proofs.Common.{◌≡◌, ◌+◌, ◌≤◌, List, [], ◌∷◌, ◌++◌, Ok, Err, Some, map, take, drop, refl, sym, ap, ◌∙◌, subst, subst₂, arith, All, IsSome, length, Result}
+use Rattle.std.proofs.Common.{◌≡◌, ◌+◌, ◌≤◌, List, [], ◌∷◌, ◌++◌, Ok, map, take, drop, refl, sym, ap, ◌∙◌, subst, subst₂, arith, All, IsSome, length, Result}
 use Rattle.std.proofs.lemmas.List.{map-append}
 use Rattle.std.proofs.lemmas.Result.{err_from_is_err_and}
 use Rattle.std.specs.Rc.{rc_value}
 use Rattle.std.specs.BTreeMap.{get}
 use Rattle.ap_text.specs.Paths.{below_folder}
-use Rattle.ap_host.specs.Disk.{Files}
 use Rattle.ap_host.specs.Changes.{GoesOn}
-use Rattle.ap_host.proofs.ChangeLemmas.{GoesOn-then, GoesOn-map, GoesOn-none}
+use Rattle.ap_host.proofs.ChangeLemmas.{GoesOn-then, GoesOn-none}
 use Rattle.package_core.specs.Card.{Card, IsPackage}
 use Rattle.package_core.specs.Whole.{IsSaid}
 use Rattle.package_core.specs.Order.{package_cmp}
@@ -21,7 +20,7 @@ use Rattle.local_repo.specs.Files.{path_at}
 use Rattle.local_repo.specs.Fits.{AreTaken}
 use Rattle.local_repo.proofs.ListLemmas.{AreEqual, ascending_alike, next_taken, at_member, all_first, split_at}
 use Rattle.local_repo.proofs.TakenLemmas.{each_more, each_fault, taken_more, equal_more}
-use Rattle.local_repo.proofs.LogLemmas.{all_none, all_nothing, all_fails, all_more, all_stops}
+use Rattle.local_repo.proofs.LogLemmas.{all_none, all_nothing, all_more, all_stops}
 use Rattle.local_repo.proofs.arrive.take_all.Goals as goal
 
 pub returns-in_err-files-clause-log : goal.returns-in_err-files-clause-log

@@ -1,8 +1,7 @@
-use Rattle.std.proofs.Common.{◌≡◌, List, Ok, Err, Some, map, refl, sym, ap, ◌∙◌, subst, All, IsSome, length, Result}
+use Rattle.std.proofs.Common.{◌≡◌, List, Ok, map, refl, sym, ap, ◌∙◌, subst, All, Result}
 use Rattle.std.proofs.lemmas.Result.{err_from_is_err_and}
 use Rattle.std.specs.Option.{option_copied}
 use Rattle.std.specs.Rc.{rc_value}
-use Rattle.std.specs.BTreeMap.{get}
 use Rattle.ap_host.proofs.ChangeLemmas.{GoesOn-map, GoesOn-none}
 use Rattle.std.specs.List.{AllByRecursion}
 use Rattle.package_core.specs.Card.{Card, IsPackage}
@@ -11,9 +10,7 @@ use Rattle.machine_state.specs.declared.refusal.Refusal.{Refusal}
 use Rattle.package_core.specs.Order.{package_cmp}
 use Rattle.package_list.specs.Sorted.{IsAscending}
 use Rattle.package_list.specs.Answers.{join_answer}
-use Rattle.package_list.specs.Lists.{joined}
 use Rattle.machine_state.specs.declared.limit.Limit.TheVariants.{Packages}
-use Rattle.machine_state.specs.declared.arrived.UpdateFault.{UpdateFault}
 use Rattle.local_repo.specs.Arrival.{cards_of, entries_arrive, list_in, or_refused}
 use Rattle.local_repo.specs.Answers.{FaultGives}
 use Rattle.local_repo.proofs.ArrivalLemmas.{There, joined_is, joined_ascending, joined_good, joined_paths, paths_there, paths_short, same_steps, join_fault, take_fault, check_fault, all_ok, told_err}

@@ -1,9 +1,7 @@
-use Rattle.std.proofs.Common.{◌≡◌, Some, refl, sym, ap, ◌∙◌, IfOk, Result, Ok, Err}
+use Rattle.std.proofs.Common.{◌≡◌, Some, refl, sym, ap, ◌∙◌}
 use Rattle.std.specs.Option.{IfSome, option_map}
 use Rattle.std.specs.Rc.{rc_value}
-use Rattle.ap_host.specs.Disk.{Files}
 use Rattle.package_core.specs.Card.{Card}
-use Rattle.machine_state.specs.declared.arrived.UpdateFault.{UpdateFault}
 use Rattle.ap_host.proofs.ChangeLemmas.{GoesOn-map, GoesOn-none}
 use Rattle.local_repo.specs.Bodies.{HasBody}
 use Rattle.local_repo.specs.Files.{file_of}

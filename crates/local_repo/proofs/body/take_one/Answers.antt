@@ -1,4 +1,4 @@
-use Rattle.std.proofs.Common.{◌≡◌, ◌<◌, ◌≤◌, refl, sym, ap, ◌∙◌, arith, Ok, Err, Result, subst}
+use Rattle.std.proofs.Common.{◌<◌, ◌≤◌, refl, sym, ◌∙◌, arith, Ok, Err, Result, subst}
 use Rattle.std.proofs.lemmas.Result.{err_from_is_err_and, IfOk-from_err}
 use Rattle.machine_state.specs.declared.arrived.UpdateFault.{UpdateFault}
 use Rattle.local_repo.specs.Arrival.{taken}

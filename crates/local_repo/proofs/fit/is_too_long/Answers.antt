@@ -1,4 +1,4 @@
-use Rattle.std.proofs.Common.{◌≡◌, ◌+◌, ◌≤◌, ◌<◌, List, map, take, length, sym, ap, ◌∙◌, arith, lt-ltb, le-ltb, take_all}
+use Rattle.std.proofs.Common.{◌+◌, ◌≤◌, ◌<◌, List, map, length, sym, ap, ◌∙◌, arith, lt-ltb, le-ltb, take_all}
 use Rattle.std.proofs.lemmas.List.{length-map}
 use Rattle.std.specs.Rc.{rc_value}
 use Rattle.package_core.specs.Card.{Card, package_text}

@@ -1,7 +1,6 @@
-use Rattle.std.proofs.Common.{◌≡◌, ◌++◌, ◌∷◌, [], refl, sym, ap, ◌∙◌, append_assoc}
+use Rattle.std.proofs.Common.{◌≡◌, ◌++◌, ◌∷◌, [], sym, ap, ◌∙◌, append_assoc}
 use Rattle.std.specs.Rc.{rc_value}
-use Rattle.package_core.specs.Card.{Card}
-use Rattle.local_repo.specs.Arrival.{Entry, entry_for, path_in}
+use Rattle.local_repo.specs.Arrival.{Entry, path_in}
 use Rattle.local_repo.proofs.MapLemmas.{entry_more, cards_more}
 use Rattle.local_repo.proofs.join.split.Goals as goal
 

@@ -1,4 +1,4 @@
-use Rattle.std.proofs.Common.{refl, sym, ap, ◌∙◌}
+use Rattle.std.proofs.Common.{sym, ap, ◌∙◌}
 use Rattle.std.specs.Rc.{rc_value}
 use Rattle.package_core.specs.Card.{Card}
 use Rattle.local_repo.specs.Arrival.{file_in}
