@@ -2,4 +2,3 @@ pub mod StepLemmas
 pub mod LawLemmas
 pub mod QueryLemmas
 pub mod JoinLemmas
-pub mod SameLemmas

@@ -147,6 +147,7 @@ fn take_in(
     ensures fits { Valid state.now → FitsIn state.now name.now list.now → IsTrue (is_some (repo_of name.now state.now.repos)) → IfErr result IsMemory }
     ensures new { Valid state.now → IsTrue (is_some (repo_of name.now state.now.repos)) → IfOk result (λ change. IsNew state.now change.state) }
 {
+    arrivals_fit();
     let repo = there(alloc, state, name)?;
     let all = joined(alloc, &repo.list, list)?;
     let added = all.len().saturating_sub(repo.list.len());

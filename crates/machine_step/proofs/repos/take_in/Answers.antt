@@ -2,7 +2,6 @@ use Rattle.std.proofs.Common.{◌≡◌, ◌-◌, ◌∙◌, ap, sym, length, ar
 use Rattle.package_list.specs.Lists.{union}
 use Rattle.machine_step.proofs.StepLemmas.{at_exit}
 use Rattle.machine_step.proofs.JoinLemmas.{fits_own, nothing_new, taken_reply, taken_none, added_new}
-use Rattle.machine_step.proofs.SameLemmas.{added_same}
 use Rattle.machine_step.proofs.repos.take_in.Goals as goal
 
 pub returns-in_err-all-clause-fits : goal.returns-in_err-all-clause-fits
@@ -20,7 +19,7 @@ returns-then-added-eq0-clause-taken c = λ date v f s.
     let none : length (union c.in_ok-repo.repo.now.list c.args.list.now) - length c.in_ok-repo.repo.now.list ≡ 0 = omega (arith, count, c.if-added-eq0.true) in
     taken_none c.args.state.now c.args.name.now c.in_ok-reply.reply c.args.list.now date
     (taken_reply c.args.state.now c.args.name.now c.in_ok-reply.reply c.args.list.now c.in_ok-repo.repo.now k n found c.in_ok-reply.ensures count (c.len-3.ensures ∙ all))
-    (added_same c.args.state.now c.args.name.now c.args.list.now c.in_ok-repo.repo.now v found (nothing_new c.args.state.now c.args.name.now c.args.list.now c.in_ok-repo.repo.now v found none))
+    (c.arrivals_fit.ensures.same c.args.state.now c.args.name.now c.args.list.now v (nothing_new c.args.state.now c.args.name.now c.args.list.now c.in_ok-repo.repo.now v found none))
 
 pub returns-clause-new : goal.returns-clause-new
 returns-clause-new c = λ v s e.
