@@ -1,5 +1,5 @@
 -- From the opening and the run to the whole call.
-use Rattle.std.proofs.Common.{◌≡◌, ◌⊎◌, inl, inr, List, ℕ, true, false, [], ◌∷◌, ◌++◌, take, drop, Option, Some, None, IsTrue, IsFalse, Result, Ok, Err, OnOk, refl, sym, ◌∙◌, ap, subst, append-nil}
+use Rattle.std.proofs.Common.{◌≡◌, ◌⊎◌, inl, inr, List, ℕ, true, false, [], ◌∷◌, ◌++◌, take, drop, Option, Some, None, IsFalse, Result, Ok, Err, OnOk, refl, sym, ◌∙◌, ap, subst, append-nil}
 use Rattle.std.proofs.lemmas.List.{take-append-drop}
 use Rattle.ap_host.specs.declared.host.Op.{Op}
 use Rattle.ap_host.specs.declared.host.Op.TheVariants.{Barrier, Say, Claim}
@@ -20,8 +20,7 @@ use Rattle.aptly_core.specs.declared.catalogue_root.LoadFault.TheVariants as fau
 use Rattle.command_words.specs.Plain.{PlainCommand}
 use Rattle.command_words.specs.Commands as words_spell
 use Rattle.command_words.specs.Commands.{IsUsagePlace}
-use Rattle.stage_file.specs.Stage.{StageState, is_staged, IsInStep}
-use Rattle.hash_pool.specs.Names.{is_pooled}
+use Rattle.stage_file.specs.Stage.{StageState, is_staged}
 use Rattle.hash_pool.specs.Growth.{IsOnce}
 use Rattle.hash_pool.proofs.NameLemmas.{pooled_not_staged}
 use Rattle.machine_state.specs.State.{Valid}
@@ -32,9 +31,9 @@ use Rattle.aptly_core.specs.declared.status.Damage.{Damage}
 use Rattle.aptly_core.specs.declared.status.Status.{Status}
 use Rattle.aptly_core.specs.declared.status.Status.TheVariants.{Done, Refused, Usage, HostFault, InboxFault, OutOfMemory, Damaged, Busy}
 use Rattle.aptly_core.specs.Calls.{GotClaim, CallTo, Called, CalledWith, TellsUsage, SaysUsage, IsSaid, IsRunAnswer, IsDamagedAnswer}
-use Rattle.aptly_core.specs.Machine.{machine, store, IsWork, IsOpening, Opening, Sets}
+use Rattle.aptly_core.specs.Machine.{machine, IsWork, IsOpening, Opening, Sets}
 use Rattle.aptly_core.specs.Opens.{OpensTo, status_of_load, RunsClaimed, IsFault, IsSettling, IsClaimedStatus, IsDamagedOrFault}
-use Rattle.aptly_core.specs.Runs.{MayRun, RanAs, RanTo, RunsList, EndsWith, IsRunStatus}
+use Rattle.aptly_core.specs.Runs.{RanAs, RanTo, RunsList, EndsWith, IsRunStatus}
 use Rattle.aptly_core.specs.Store.{Sound, SoundForNone, IsDamage, Open, RootApart, BodiesApart, Apart}
 use Rattle.aptly_core.proofs.Lawful.{lawful}
 use Rattle.aptly_core.proofs.LoadLemmas.{sound_once, stored_sound}
@@ -160,14 +159,21 @@ module _ (input : Option Files) (Told : Option (List ℕ) → Type 0) (told : To
 
   call_claimed : (k : Option (List ℕ)) × Told k × CallTo input k l s t cs status (Claim true ∷ Barrier ∷ b)
   call_claimed = elim (w.went apart_first s (durable_first l) stands) [
-    | inl broke ↦ (None, told, call_fault input l s t cs status (Claim true ∷ Barrier ∷ b) broke.fault
-        (broke_opening (machine input) (lawful input) None l s t cs (Claim true ∷ Barrier ∷ b) (opened_more (machine input) l s t entry b (grows_in input s s (extended first l) b broke.grows) (opening_sets b broke.only) (opening_more l s b broke.only))))
+    | inl broke ↦ (
+      None,
+      told,
+      call_fault input l s t cs status (Claim true ∷ Barrier ∷ b) broke.fault
+          (broke_opening (machine input) (lawful input) None l s t cs (Claim true ∷ Barrier ∷ b) (opened_more (machine input) l s t entry b (grows_in input s s (extended first l) b broke.grows) (opening_sets b broke.only) (opening_more l s b broke.only))),
+    )
     | inr went ↦
         let a = went.opening in
         let o = opened_whole (machine input) l s t entry a (grows_in input s s (extended first l) a went.grows) (opening_sets a went.only) (opening_more l s a went.only) went.at_rest in
-        let k = went.ran.0 in
-        (k, went.ran.1, subst (λ (x : List Op). CallTo input k l s t cs status (Claim true ∷ Barrier ∷ x)) went.cut
-        (call_ran input k l s t cs (Claim true ∷ Barrier ∷ a) went.rest o status is not_damaged (subst (λ (m : Log). RanAs input k m s cs status went.rest) (extended-append first a l) went.ran.2)))
+        let k = went.ran.0 in (
+          k,
+          went.ran.1,
+          subst (λ (x : List Op). CallTo input k l s t cs status (Claim true ∷ Barrier ∷ x)) went.cut
+              (call_ran input k l s t cs (Claim true ∷ Barrier ∷ a) went.rest o status is not_damaged (subst (λ (m : Log). RanAs input k m s cs status went.rest) (extended-append first a l) went.ran.2)),
+        )
   ]
 
 got_not : (b : List Op) → (Claim true ∷ b) ≡ Claim false ∷ [] → ⊥

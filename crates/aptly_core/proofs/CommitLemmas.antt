@@ -18,15 +18,14 @@ use Rattle.aptly_core.specs.Commits.{IsCommitting, MaySet, SetsRoot}
 use Rattle.aptly_core.specs.Machine.{store}
 use Rattle.catalogue_text.specs.Root.{root_text}
 use Rattle.machine_state.specs.State.{Valid}
-use Rattle.package_core.specs.Card.{Card, said_of}
-use Rattle.hash_pool.specs.Names.{is_pooled, pool_name, IsNamed}
+use Rattle.package_core.specs.Card.{Card}
+use Rattle.hash_pool.specs.Names.{is_pooled, pool_name}
 use Rattle.hash_pool.specs.Growth.{targets}
 use Rattle.hash_pool.proofs.NameLemmas.{name_pooled}
 use Rattle.hash_pool.proofs.GrowthLemmas.{targets-append}
 use Rattle.sha2.specs.Sha256.{sha256}
-use Rattle.digest_set.specs.Facts.{digests_of}
 use Rattle.local_repo.specs.Bodies.{HasBody}
-use Rattle.aptly_core.specs.Store.{root, IsRootOf, Open, Stored, NothingPublic}
+use Rattle.aptly_core.specs.Store.{root, IsRootOf, Open, NothingPublic}
 use Rattle.machine_state.specs.Values.{StateView}
 
 abbrev pub is_public : Path → Bool

@@ -1,12 +1,11 @@
 -- What a command comes to, and the files that it takes in.
-use Rattle.std.proofs.Common.{◌≡◌, ◌⊎◌, ◌&&◌, Bool, true, false, inl, inr, ℕ, zero, suc, ◌<◌, ◌≤◌, nat_le, List, [], ◌∷◌, ◌++◌, length, All, slice_index_or, Option, Some, None, Ordering, Less, Equal, Greater, IsSome, IsTrue, IfSome, IfOk, Result, Ok, Err, unwrap_or, refl, sym, ◌∙◌, ap, subst, append-nil, arith}
+use Rattle.std.proofs.Common.{◌≡◌, ◌&&◌, Bool, true, false, inl, inr, ℕ, zero, suc, ◌≤◌, nat_le, List, [], ◌∷◌, ◌++◌, length, All, slice_index_or, Option, Some, None, Ordering, Less, Equal, Greater, IsSome, IfSome, IfOk, Result, Ok, Err, unwrap_or, refl, sym, ◌∙◌, ap, subst, arith}
 use Rattle.std.specs.Bool.{if◌then◌else◌}
 use Rattle.std.specs.Option.{is_some}
 use Rattle.std.proofs.lemmas.Bool.{leb-true}
 use Rattle.ap_host.specs.declared.host.Op.{Op}
 use Rattle.ap_host.specs.Disk.{Files, Log, extended, live_of}
 use Rattle.ap_host.proofs.DiskLemmas.{extended-none}
-use Rattle.ap_host.proofs.LegalLemmas.{law_of_live_image}
 use Rattle.command_words.specs.Plain.{PlainCommand, repo_create, repo_add, repo_show, package_search, package_show}
 use Rattle.stage_file.specs.Stage.{StageState, IsInStep}
 use Rattle.package_core.specs.Card.{Card}
@@ -14,12 +13,12 @@ use Rattle.package_core.specs.Order.{package_cmp}
 use Rattle.package_list.specs.Sorted as sorted
 use Rattle.package_list.specs.Lists.{union}
 use Rattle.hash_pool.specs.Names.{pool_name, IsNamed}
-use Rattle.hash_pool.specs.Growth.{PoolGrows, HasGrown}
+use Rattle.hash_pool.specs.Growth.{PoolGrows}
 use Rattle.hash_pool.proofs.NameLemmas.{name_not_staged}
 use Rattle.hash_pool.proofs.GrowthLemmas.{grows_none, grows_whole, law_of_growth}
 use Rattle.machine_state.specs.declared.limit.Limit.TheVariants.{Repos}
 use Rattle.machine_state.specs.declared.refusal.Refusal.{Refusal}
-use Rattle.machine_state.specs.declared.refusal.Refusal.TheVariants.{NotBuilt, BadName, BadPattern, PatternTooLarge, Limit}
+use Rattle.machine_state.specs.declared.refusal.Refusal.TheVariants.{BadName, BadPattern, PatternTooLarge, Limit}
 use Rattle.machine_state.specs.declared.arrived.Arrived.{Arrived}
 use Rattle.machine_state.specs.declared.arrived.Arrived.TheVariants as arrivals
 use Rattle.machine_state.specs.declared.arrived.UpdateFault.{UpdateFault}
@@ -29,7 +28,6 @@ use Rattle.machine_state.specs.State.{Valid, repo_cmp}
 use Rattle.machine_state.specs.Values.{StateView}
 use Rattle.local_repo.specs.Answers.{IsArrival, Comes, Adds, IfList, Fills}
 use Rattle.local_repo.specs.Bodies.{HasBody, IsMet, DigestsApart}
-use Rattle.local_repo.specs.Fits.{added}
 use Rattle.reply_text.specs.Refusals.{refusal_line}
 use Rattle.reply_text.specs.Replies as replies
 use Rattle.ap_text.specs.Paths.{is_safe_path}
@@ -39,8 +37,7 @@ use Rattle.machine_step.specs.Early.{early, or_else, bad_name, bad_folder, unkno
 use Rattle.query_eval.specs.Conditions.{IsCondition}
 use Rattle.machine_step.specs.Queries.{IsPatternRefusal}
 use Rattle.machine_step.specs.declared.outcome.Reading.{Reading}
-use Rattle.machine_step.specs.declared.outcome.Reading.TheVariants as readings
-use Rattle.machine_step.specs.Step.{Came, refused, new_repo, created, taken_in, done, came_to, MayArrive, MayArriveFor, StepWith, Step}
+use Rattle.machine_step.specs.Step.{Came, refused, new_repo, taken_in, done, came_to, MayArrive, MayArriveFor, StepWith, Step}
 use Rattle.aptly_core.specs.declared.fault.RunFault.{RunFault}
 use Rattle.aptly_core.specs.Arrives.{Arrives, ArrivesFor, Decides, DecidesIf, arrived_of, list_in}
 use Rattle.aptly_core.specs.Store.{BodiesApart, Stored}

@@ -1,12 +1,12 @@
 -- Files are taken into the pool: the store stands for its state on.
 use Rattle.sha2.specs.Sha256.{sha256}
-use Rattle.std.proofs.Common.{◌≡◌, ◌==◌, ◌&&◌, ◌||◌, append-nil, ◌⊎◌, ◌<◌, inl, inr, ℕ, Bool, true, false, List, [], ◌∷◌, ◌++◌, length, Some, None, IsTrue, IsFalse, IsSome, All, slice_index, nat_eq, refl, sym, ◌∙◌, ap, subst, codes}
+use Rattle.std.proofs.Common.{◌≡◌, ◌==◌, ◌&&◌, ◌||◌, append-nil, ◌⊎◌, ◌<◌, inl, inr, ℕ, Bool, true, false, List, [], ◌∷◌, ◌++◌, length, Some, None, IsTrue, IsFalse, IsSome, slice_index, nat_eq, refl, sym, ◌∙◌, ap, subst, codes}
 use Rattle.std.specs.List.{starts_with, AllByRecursion}
 use Rattle.std.proofs.lemmas.Bool.{eqb-true}
 use Rattle.ap_text.specs.Paths.{is_below}
 use Rattle.ap_host.specs.declared.host.Op.{Op}
 use Rattle.ap_host.specs.declared.host.Op.TheVariants.{Create, Append, Sync, Rename, Remove, Barrier, Say, Claim}
-use Rattle.ap_host.specs.Disk.{Path, Content, Files, Log, extended, live_of, Images, said, Throughout}
+use Rattle.ap_host.specs.Disk.{Path, Content, Log, extended, live_of, Images, said, Throughout}
 use Rattle.ap_host.specs.Changes.{EachOp, TouchesOnly, SameExcept}
 use Rattle.ap_host.proofs.DiskLemmas.{Throughout-end}
 use Rattle.ap_host.proofs.ChangeLemmas.{EachOp-map, after_same}
@@ -15,15 +15,14 @@ use Rattle.run_model.specs.Run.{Grows, AtRest}
 use Rattle.stage_file.specs.Stage.{is_staged}
 use Rattle.package_core.specs.Card.{Card}
 use Rattle.hash_pool.specs.Names.{is_pooled, pool_name, Named}
-use Rattle.hash_pool.specs.Growth.{IsTaking, PoolGrows, HasGrown, IsBody, targets, IsNot, IsOnce}
-use Rattle.hash_pool.proofs.NameLemmas.{name_not_staged, name_pooled, not_both, pooled_not_staged}
-use Rattle.hash_pool.proofs.GrowthLemmas.{law_of_growth, none_some, targets_new}
+use Rattle.hash_pool.specs.Growth.{IsTaking, PoolGrows, HasGrown, targets, IsNot, IsOnce}
+use Rattle.hash_pool.proofs.NameLemmas.{name_not_staged, not_both}
+use Rattle.hash_pool.proofs.GrowthLemmas.{law_of_growth, targets_new}
 use Rattle.machine_state.specs.Values.{StateView}
-use Rattle.local_repo.specs.Bodies.{HasBody}
 use Rattle.aptly_core.specs.Machine.{store, IsWork, IsIdle, is_below_one, AreTargets, Sets}
-use Rattle.aptly_core.specs.Store.{root, IsRootOf, Open, Stored}
+use Rattle.aptly_core.specs.Store.{root, IsRootOf, Open}
 use Rattle.aptly_core.proofs.CommitLemmas.{is_public, item}
-use Rattle.aptly_core.proofs.SettleLemmas.{public_not_staged, root_not_staged, kept_not_staged}
+use Rattle.aptly_core.proofs.SettleLemmas.{public_not_staged, root_not_staged}
 
 clash : {A : Type 0} → false ≡ true → A
 clash h = absurd (cc)

@@ -1,5 +1,5 @@
 -- The machine of the program is lawful, whatever its inbox tells.
-use Rattle.std.proofs.Common.{◌≡◌, ℕ, Bool, true, false, List, [], length, All, nat_le, Option, Some, None, refl, sym, ◌∙◌, ap, subst}
+use Rattle.std.proofs.Common.{◌≡◌, ℕ, Bool, true, false, List, [], length, nat_le, Option, Some, None, sym, ◌∙◌, ap, subst}
 use Rattle.std.specs.Bool.{if◌then◌else◌}
 use Rattle.ap_host.specs.Disk.{Files}
 use Rattle.command_words.specs.Plain.{PlainCommand, repo_create, repo_add, repo_show, package_search, package_show}

@@ -8,7 +8,7 @@ use Rattle.ap_host.specs.Changes.{EachOp}
 use Rattle.ap_host.proofs.ChangeLemmas.{EachOp-append}
 use Rattle.ap_host.proofs.DiskLemmas.{extended-append, extended-none}
 use Rattle.command_words.specs.Plain.{PlainCommand}
-use Rattle.run_model.specs.Run.{Outcome, Ran, Runs, EndsAs, AtRest}
+use Rattle.run_model.specs.Run.{Outcome, Ran, Runs, EndsAs}
 use Rattle.run_model.proofs.Joins.{said-append, turn_done, turn_refused, turn_broke, ran_nothing, done_told}
 use Rattle.stage_file.specs.Stage.{StageState}
 use Rattle.machine_state.specs.declared.refusal.Refusal.{Refusal}
@@ -19,8 +19,8 @@ use Rattle.aptly_core.specs.declared.fault.RunFault.{RunFault}
 use Rattle.aptly_core.specs.declared.fault.RunFault.TheVariants.{HostFault, InboxFault, OutOfMemory}
 use Rattle.aptly_core.specs.declared.status.Status.{Status}
 use Rattle.aptly_core.specs.declared.status.Status.TheVariants as statuses
-use Rattle.aptly_core.specs.Machine.{machine, Steps, IsWork}
-use Rattle.aptly_core.specs.Runs.{MayRun, RunsOne, RunsList, RanAs, RanTo, EndsWith, ComesTo, Turns, TurnComes, TurnRan, IsTurnEnd, next_of_done, status_of_fault}
+use Rattle.aptly_core.specs.Machine.{machine, IsWork}
+use Rattle.aptly_core.specs.Runs.{MayRun, RunsOne, RunsList, RanTo, EndsWith, ComesTo, Turns, TurnComes, TurnRan, IsTurnEnd, next_of_done, status_of_fault}
 use Rattle.aptly_core.proofs.Lawful.{lawful, plain, refused_says}
 
 pub turn_so : (input : Option Files) (T : Option (List ℕ) → Type 0) (s : StateView) (c : PlainCommand) (before now : StageState) (done : StateView × Option Refusal) (l : Log) (ops : List Op) → RunsOne input T s c before now (Ok done) l ops → Turns input T s c before now (next_of_done done) l ops

@@ -1,5 +1,5 @@
 -- The loading of a state.
-use Rattle.std.proofs.Common.{◌≡◌, ◌≢◌, ◌⊎◌, inl, inr, ℕ, zero, suc, ◌+◌, ◌<◌, ◌≤◌, map, arith, Bool, false, ◌==◌, List, [], All, Contains, length, slice_index_or, Option, Some, None, Result, Ok, Err, IfOk, option_map, refl, sym, ◌∙◌, ap, subst}
+use Rattle.std.proofs.Common.{◌≡◌, ◌⊎◌, inl, inr, ℕ, zero, suc, ◌+◌, ◌<◌, ◌≤◌, map, arith, List, [], All, Contains, length, slice_index_or, Option, Some, None, Result, Ok, Err, IfOk, option_map, refl, sym, ◌∙◌, ap, subst}
 use Rattle.std.proofs.lemmas.List.{get_or-map, length-map}
 use Rattle.ap_host.specs.Disk.{Path, Content, Files}
 use Rattle.package_core.specs.Card.{Card}
@@ -9,7 +9,6 @@ use Rattle.machine_state.specs.Values.{StateView}
 use Rattle.catalogue_text.specs.Root.{root_text}
 use Rattle.catalogue_text.specs.Faults.{TextsApart, IsFirstBadLine}
 use Rattle.catalogue_text.proofs.RootTexts.{one_state}
-use Rattle.local_repo.specs.Bodies.{HasBody}
 use Rattle.aptly_core.specs.declared.catalogue_root.LoadFault.{LoadFault}
 use Rattle.aptly_core.specs.declared.catalogue_root.LoadFault.TheVariants.{Damaged, HostFault, OutOfMemory}
 use Rattle.aptly_core.specs.declared.status.Damage.{Damage}

@@ -1,9 +1,9 @@
 -- The barrier before the root is set: what was taken in is durable behind it.
-use Rattle.std.proofs.Common.{◌≡◌, inl, ℕ, Bool, true, false, List, [], ◌∷◌, ◌++◌, MatchBool, Result, Ok, Err, OnOk, refl, sym, ◌∙◌, ap, subst}
+use Rattle.std.proofs.Common.{◌≡◌, inl, Bool, true, false, List, [], ◌∷◌, ◌++◌, MatchBool, Result, Ok, Err, OnOk, refl, sym, ◌∙◌, ap, subst}
 use Rattle.ap_host.specs.declared.host.Op.{Op}
 use Rattle.ap_host.specs.declared.host.Op.TheVariants.{Barrier}
 use Rattle.ap_host.specs.declared.host.HostErr.{HostErr}
-use Rattle.ap_host.specs.Disk.{Path, Content, Files, Log, Disk, Image, disk_of, extended, live_of, Images, said, Durable, Throughout}
+use Rattle.ap_host.specs.Disk.{Path, Content, Files, Log, Disk, Image, disk_of, extended, live_of, said, Durable, Throughout}
 use Rattle.ap_host.specs.Calls.{Did}
 use Rattle.ap_host.specs.Changes.{EachOp}
 use Rattle.ap_host.proofs.DiskLemmas.{disk_of-step, extended-append, extended-none, Throughout-none}

@@ -1,11 +1,11 @@
 -- One command: files are taken in, the new state is committed, and then the reply is said.
-use Rattle.std.proofs.Common.{◌≡◌, ◌≢◌, ◌⊎◌, inl, inr, ℕ, List, [], ◌∷◌, ◌++◌, take, drop, All, Option, Some, None, IsTrue, IsSome, IfSome, IfOk, Result, Ok, Err, OnOk, unwrap_or, refl, sym, ◌∙◌, ap, subst, append-nil, append_assoc}
+use Rattle.std.proofs.Common.{◌≡◌, ◌⊎◌, inl, inr, ℕ, List, [], ◌∷◌, ◌++◌, take, drop, All, Option, Some, None, IsTrue, IsSome, IfSome, Result, Ok, Err, OnOk, unwrap_or, refl, sym, ◌∙◌, ap, subst, append-nil, append_assoc}
 use Rattle.std.proofs.lemmas.List.{take-append-drop}
 use Rattle.ap_host.specs.declared.host.Op.{Op}
 use Rattle.ap_host.specs.declared.host.Op.TheVariants.{Create, Append, Sync, Rename, Remove, Barrier, Say, Claim}
 use Rattle.ap_host.specs.declared.host.HostErr.{HostErr}
 use Rattle.ap_host.specs.declared.host.HostErr.TheVariants.{Failed, OutOfMemory}
-use Rattle.ap_host.specs.Disk.{Path, Files, Log, Disk, disk_of, extended, live_of, said, Durable}
+use Rattle.ap_host.specs.Disk.{Path, Files, Log, Disk, extended, live_of, said, Durable}
 use Rattle.ap_host.specs.Calls.{Did}
 use Rattle.ap_host.specs.Changes.{EachOp}
 use Rattle.ap_host.proofs.ChangeLemmas.{EachOp-append, EachOp-map, part_each, did_part, same_after}
@@ -32,9 +32,9 @@ use Rattle.aptly_core.specs.declared.fault.RunFault.{RunFault}
 use Rattle.aptly_core.specs.Arrives.{Decides}
 use Rattle.aptly_core.specs.Commits.{IsCommitting, MayCommit, Saves}
 use Rattle.aptly_core.specs.Machine.{machine, store, Steps, IsWork, IsIdle, is_below_one, AreTargets, Sets, Moves}
-use Rattle.aptly_core.specs.Runs.{MayRun, RanOne, RunsOne}
-use Rattle.aptly_core.specs.Store.{root, BodiesApart, Stored}
-use Rattle.aptly_core.proofs.CommitLemmas.{SetsOnce, sets_before, rest_valid}
+use Rattle.aptly_core.specs.Runs.{MayRun, RunsOne}
+use Rattle.aptly_core.specs.Store.{root, BodiesApart}
+use Rattle.aptly_core.proofs.CommitLemmas.{sets_before, rest_valid}
 use Rattle.aptly_core.proofs.GrowLemmas.{taking_quiet, taking_work, taking_idle, taking_sets, once_all, targets_all, grown_rest, grown_to, here}
 use Rattle.aptly_core.proofs.Lawful.{lawful, keeps}
 

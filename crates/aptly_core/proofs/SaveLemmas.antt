@@ -1,5 +1,5 @@
 -- A commit where there is a new state.
-use Rattle.std.proofs.Common.{◌≡◌, List, [], Option, Some, None, Result, Ok, Err, OnOk, unwrap_or, inl, refl, sym, ap, subst}
+use Rattle.std.proofs.Common.{◌≡◌, List, [], Option, Some, None, Result, Ok, Err, OnOk, inl, refl, sym, subst}
 use Rattle.ap_host.specs.declared.host.Op.{Op}
 use Rattle.ap_host.specs.declared.host.HostErr.{HostErr}
 use Rattle.ap_host.specs.Disk.{Log, extended, Durable}

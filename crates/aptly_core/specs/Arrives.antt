@@ -1,5 +1,5 @@
 -- What the deciding of a command adds to the log: the files that it takes in.
-use Rattle.std.specs.Prelude.{◌≡◌, ℕ, List, [], ◌∷◌, All, Option, Some, None, Result, Ok, Err, IfOk, IfSome, length, ◌≤◌}
+use Rattle.std.specs.Prelude.{◌≡◌, List, [], All, Option, Result, Ok, Err, IfOk, IfSome, length, ◌≤◌}
 use Rattle.ap_host.specs.declared.host.Op.{Op}
 use Rattle.ap_host.specs.Disk.{Files, Log, extended, live_of}
 use Rattle.stage_file.specs.Stage.{StageState, IsInStep}

@@ -1,5 +1,5 @@
 -- What a commit adds to the log.
-use Rattle.std.specs.Prelude.{◌≡◌, ◌⊎◌, ◌≤◌, List, [], ◌∷◌, length, All, Option, None, Some, Result, OnOk, IsTrue, unwrap_or}
+use Rattle.std.specs.Prelude.{◌≡◌, ◌⊎◌, ◌≤◌, List, [], ◌∷◌, length, All, Option, None, Result, OnOk, IsTrue, unwrap_or}
 use Rattle.ap_host.specs.declared.host.Op.{Op}
 use Rattle.ap_host.specs.declared.host.Op.TheVariants.{Create, Append, Sync, Rename, Barrier}
 use Rattle.ap_host.specs.declared.host.HostErr.{HostErr}

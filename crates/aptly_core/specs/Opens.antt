@@ -15,7 +15,7 @@ use Rattle.aptly_core.specs.declared.catalogue_root.LoadFault.TheVariants.{Damag
 use Rattle.aptly_core.specs.declared.status.Damage.{Damage}
 use Rattle.aptly_core.specs.declared.status.Status.{Status}
 use Rattle.aptly_core.specs.declared.status.Status.TheVariants as statuses
-use Rattle.aptly_core.specs.Machine.{machine, store, IsWork}
+use Rattle.aptly_core.specs.Machine.{store, IsWork}
 use Rattle.aptly_core.specs.Runs.{EndsWith, RanTo, SaysRefusal}
 use Rattle.aptly_core.specs.Store.{Open, Sound, SoundForNone, IsDamage, MayLoad, RootApart, Apart}
 

@@ -318,4 +318,3 @@ pub fn aptly<H: Host, I: Inbox, M: Patterns>(
         Err(WordFault::OutOfMemory) => Status::OutOfMemory,
     }
 }
-

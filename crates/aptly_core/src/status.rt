@@ -2,8 +2,8 @@
 ghost use Rattle.std.specs.Prelude.{◌≡◌};
 ghost use Rattle.aptly_core.specs.Status.{code_of};
 
-use machine_state::Refusal;
 use ap_text::SafePath;
+use machine_state::Refusal;
 
 /// What is wrong in a store that stands for no state.
 #[derive(Drop)]

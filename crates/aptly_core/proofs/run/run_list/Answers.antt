@@ -1,9 +1,8 @@
-use Rattle.std.proofs.Common.{◌≡◌, ◌<◌, Option, List, ℕ, map, length, get_or, refl, sym, ◌∙◌, ap, subst, arith, Err, Ok}
-use Rattle.std.proofs.lemmas.List.{get_or-map, length-map}
+use Rattle.std.proofs.Common.{Option, List, ℕ, map, refl, ◌∙◌, subst, arith, Err, Ok}
 use Rattle.ap_host.specs.Disk.{Files}
 use Rattle.ap_host.specs.Changes.{GoesOn}
 use Rattle.ap_host.proofs.ChangeLemmas.{GoesOn-map, GoesOn-then, GoesOn-none}
-use Rattle.command_words.specs.Plain.{plain, PlainCommand}
+use Rattle.command_words.specs.Plain.{plain}
 use Rattle.machine_step.specs.Answers.{IsTold}
 use Rattle.aptly_core.specs.Runs.{Turns, TurnComes}
 use Rattle.aptly_core.proofs.DecideLemmas.{told_wider}

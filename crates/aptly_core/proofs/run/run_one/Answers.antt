@@ -1,21 +1,20 @@
-use Rattle.std.proofs.Common.{List, ℕ, [], ◌∷◌, ◌++◌, Option, None, Result, Ok, unwrap_or, refl, sym, ◌∙◌, subst}
+use Rattle.std.proofs.Common.{List, ℕ, ◌++◌, Option, None, Result, Ok, refl, sym, ◌∙◌, subst}
 use Rattle.std.proofs.lemmas.Result.{err_from_is_err_and}
 use Rattle.ap_host.specs.declared.host.Op.TheVariants.{Say}
 use Rattle.ap_host.specs.declared.host.Op.{Op}
 use Rattle.ap_host.specs.declared.host.HostErr.{HostErr}
 use Rattle.ap_host.specs.Calls.{Did}
-use Rattle.ap_host.specs.Disk.{extended}
 use Rattle.ap_host.proofs.ChangeLemmas.{does, GoesOn-map, GoesOn-then}
 use Rattle.command_words.specs.Plain.{plain}
 use Rattle.machine_state.specs.State.{Valid}
 use Rattle.machine_state.specs.Values.{StateView}
 use Rattle.machine_step.specs.Answers.{IsTold}
-use Rattle.aptly_core.specs.Machine.{machine, Steps}
-use Rattle.aptly_core.specs.Runs.{RunsOne, MayRun}
+use Rattle.aptly_core.specs.Machine.{Steps}
+use Rattle.aptly_core.specs.Runs.{RunsOne}
 use Rattle.aptly_core.proofs.Lawful.{keeps}
 use Rattle.aptly_core.proofs.CommitLemmas.{rest_valid}
-use Rattle.aptly_core.proofs.GrowLemmas.{taking_quiet, taking_work}
-use Rattle.aptly_core.proofs.RunLemmas.{made, runs_err, broke_taking, quietly, say_broke, say_done, saved_work, saved_said, taken_work, all_grows, all_rests, all_on, Decided, decided_then_saved, runs_ok}
+use Rattle.aptly_core.proofs.GrowLemmas.{taking_work}
+use Rattle.aptly_core.proofs.RunLemmas.{made, runs_err, broke_taking, quietly, say_broke, saved_work, taken_work, all_grows, all_rests, Decided, decided_then_saved, runs_ok}
 use Rattle.aptly_core.proofs.run.run_one.Goals as goal
 
 pub returns-in_err-outcome-clause-log : goal.returns-in_err-outcome-clause-log
