@@ -102,7 +102,6 @@ is_taken : (files : Files) (known : List Card) (path : Path) (p q : Card) → Is
 unfolding taken
 is_taken files known path p q c d s h = by_size (nat_lt (limit_number File) p.said.size) refl h
   where
-
     by_size : (b : Bool) → nat_lt (limit_number File) p.said.size ≡ b → sized b (and_then (of_known_or_file path p (known_of known p.said.sha256) (files path)) (λ m. Ok (standing known m))) ≡ Ok q → IsTaken known p q
     by_size true e g = cc
     by_size false e g =

@@ -38,11 +38,11 @@ fills_none f l = subst (λ (m : Log). Fills f l m) (sym (extended-none l)) (λ p
 pub fills_then : (f : Files) (k l m : Log) → Fills f k l → Fills f l m → Fills f k m
 fills_then f k l m a b p h = elim (b p h) [
   | inl same ↦ elim (a p h) [
-      | inl before ↦ inl (same ∙ before)
-      | inr given ↦ inr (given.0, given.1, given.2, given.3, same ∙ given.4)
-      ]
-  | inr given ↦ inr given
+    | inl before ↦ inl (same ∙ before)
+    | inr given ↦ inr (given.0, given.1, given.2, given.3, same ∙ given.4)
   ]
+  | inr given ↦ inr given
+]
 
 pub stays_none : (s : StageState) (l : Log) → IsInStep s l → IsInStep s (extended [] l)
 stays_none s l h = subst (λ (m : Log). IsInStep s m) (sym (extended-none l)) h
@@ -53,7 +53,7 @@ met_before f l m bytes fills (inr input) = inr input
 met_before f l m bytes fills (inl (p, pooled, here)) = elim (fills p pooled) [
   | inl same ↦ inl (p, pooled, sym same ∙ here)
   | inr given ↦ (let e : given.1 ≡ bytes = let both = sym given.4 ∙ here in cc in inr (given.0, given.2 ∙ ap Some e))
-  ]
+]
 
 pub apart_after : (f : Files) (l m : Log) → Fills f l m → DigestsApart (live_of l) f → DigestsApart (live_of m) f
 apart_after f l m fills apart a b x y e = apart a b (met_before f l m a fills x) (met_before f l m b fills y) e
@@ -62,7 +62,7 @@ pub named_after : (f : Files) (l m : Log) → Fills f l m → IsNamed (live_of l
 named_after f l m fills named p bytes pooled here = elim (fills p pooled) [
   | inl same ↦ named p bytes pooled (sym same ∙ here)
   | inr given ↦ (let e : given.1 ≡ bytes = let both = sym given.4 ∙ here in cc in given.3 ∙ ap (λ (b : List ℕ). pool_name (sha256 b)) e)
-  ]
+]
 
 -- a body stays
 pub body_stays : (l m : Log) (p : Card) → HasGrown l m → HasBody (live_of l) p → HasBody (live_of m) p
@@ -96,7 +96,7 @@ pub lodged_fills : (map : Option Files) (path : Path) (p : Card) (r : Result Dig
 lodged_fills map path p r s t l a h f told q pooled = elim h.whole [
   | inl none ↦ inl (ap (λ (o : List Op). live_of (extended o l) q) none ∙ ap (λ (m : Log). live_of m q) (extended-none l))
   | inr some ↦ set some.0 some.1 some.2 (Throughout-end (SetsOne (pool_name p.said.sha256) some.0 l) l a some.3)
-  ]
+]
   where
     set : (bytes : List ℕ) → IsTaken map path p.said r bytes → sha256 bytes ≡ p.said.sha256 → SetsOne (pool_name p.said.sha256) bytes l (extended a l) → IsFilled f l (extended a l) q
     set bytes given sha one = by_test (bytes_eq q (pool_name p.said.sha256)) refl
@@ -105,7 +105,7 @@ lodged_fills map path p r s t l a h f told q pooled = elim h.whole [
         here e = elim one.live [
           | inl same ↦ inl (subst (λ (x : Path). live_of (extended a l) x ≡ live_of l x) (sym e) same)
           | inr new ↦ inr (path, bytes, given.input f told, e ∙ ap pool_name (sym sha), ap (λ (x : Path). live_of (extended a l) x) e ∙ new)
-          ]
+        ]
 
         by_test : (b : Bool) → bytes_eq q (pool_name p.said.sha256) ≡ b → IsFilled f l (extended a l) q
         by_test true e = here ((bytes_eq-Decides q (pool_name p.said.sha256)).0 e)

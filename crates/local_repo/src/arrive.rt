@@ -104,9 +104,7 @@ fn take_all<H: Host, I: Inbox>(
     let files = known_files(alloc, known)?;
     let mut taken = Vec::with_capacity(alloc, list.len())?;
     for one in list.as_slice() {
-        let next = take_next(
-            alloc, host, stage, inbox, known, &files, folder, paths, one,
-        )?;
+        let next = take_next(alloc, host, stage, inbox, known, &files, folder, paths, one)?;
         taken.push(Rc::new(alloc, next)?)?;
     }
     Ok(PackageList::from_ascending(taken))
@@ -178,6 +176,15 @@ pub fn add<H: Host, I: Inbox>(
     let date = Text::new(alloc, "")?;
     let entries = read_folder(alloc, inbox, folder)?;
     let own = state.repo(repo);
-    let list = take_entries(alloc, host, stage, inbox, &state.known, own, folder, entries)?;
+    let list = take_entries(
+        alloc,
+        host,
+        stage,
+        inbox,
+        &state.known,
+        own,
+        folder,
+        entries,
+    )?;
     Ok(Arrived::List { list, date })
 }

@@ -96,11 +96,7 @@ fn ends_early(alloc: Global, path: &SafePath, said: u64, found: u64) -> UpdateFa
 }
 
 /// The index at this path, whole, where it is there and not too long. It is read only then.
-fn read_index<I: Inbox>(
-    alloc: Global,
-    inbox: &mut I,
-    path: &SafePath,
-) -> Result<Bytes, UpdateFault>
+fn read_index<I: Inbox>(alloc: Global, inbox: &mut I, path: &SafePath) -> Result<Bytes, UpdateFault>
     ensures told { ForSome (I.map inbox.old) (λ f. Gives result (index_bytes path.now (f path.now))) }
     ensures fault { IfErr result IsInputFault }
     ensures map { I.map inbox.new ≡ I.map inbox.old }

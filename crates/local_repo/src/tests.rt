@@ -12,13 +12,17 @@ use std::test::Fail;
 
 const HEAD: &str = "Package: hello\nVersion: 2.10-2\nArchitecture: amd64\n";
 
-const FILE: &str = "Filename: ./hello_2.10-2_amd64.deb\nSize: 3\nMD5sum: 900150983cd24fb0d6963f7d28e17f72\nSHA1: a9993e364706816aba3e25717850c26c9cd0d89d\nSHA256: ba7816bf8f01cfea414140de5dae2223b00361a396177a9cb410ff61f20015ad\n";
+const FILE: &str =
+    "Filename: ./hello_2.10-2_amd64.deb\nSize: 3\nMD5sum: 900150983cd24fb0d6963f7d28e17f72\nSHA1: a9993e364706816aba3e25717850c26c9cd0d89d\nSHA256: ba7816bf8f01cfea414140de5dae2223b00361a396177a9cb410ff61f20015ad\n";
 
-const OTHER_SHA256: &str = "Filename: hello_2.10-2_amd64.deb\nSize: 3\nSHA256: ba7816bf8f01cfea414140de5dae2223b00361a396177a9cb410ff61f20015ae\n";
+const OTHER_SHA256: &str =
+    "Filename: hello_2.10-2_amd64.deb\nSize: 3\nSHA256: ba7816bf8f01cfea414140de5dae2223b00361a396177a9cb410ff61f20015ae\n";
 
-const OTHER_SIZE: &str = "Filename: hello_2.10-2_amd64.deb\nSize: 4\nSHA256: ba7816bf8f01cfea414140de5dae2223b00361a396177a9cb410ff61f20015ad\n";
+const OTHER_SIZE: &str =
+    "Filename: hello_2.10-2_amd64.deb\nSize: 4\nSHA256: ba7816bf8f01cfea414140de5dae2223b00361a396177a9cb410ff61f20015ad\n";
 
-const TOO_LARGE: &str = "Filename: hello_2.10-2_amd64.deb\nSize: 268435457\nSHA256: ba7816bf8f01cfea414140de5dae2223b00361a396177a9cb410ff61f20015ad\n";
+const TOO_LARGE: &str =
+    "Filename: hello_2.10-2_amd64.deb\nSize: 268435457\nSHA256: ba7816bf8f01cfea414140de5dae2223b00361a396177a9cb410ff61f20015ad\n";
 
 /// A state with the repository `local`, which has no package.
 fn state(alloc: Global) -> Result<State, Fail> {
@@ -112,7 +116,9 @@ fn arrives(alloc: Global, state: &State, mut inbox: MemInbox) -> Result<String, 
     let mut stage = Stage::new(alloc);
     let repo = Name::new(alloc, "local")?;
     let folder = SafePath::new(alloc, "incoming")?;
-    let arrived = add(alloc, &mut host, &mut stage, &mut inbox, state, &repo, &folder);
+    let arrived = add(
+        alloc, &mut host, &mut stage, &mut inbox, state, &repo, &folder,
+    );
     Ok(shown(alloc, &arrived, host.log().len())?)
 }
 
@@ -127,27 +133,68 @@ fn folders_arrive_or_are_refused(rt: HostRuntime) -> Result<(), Fail> {
     let state = state(alloc)?;
     let none = || Vec::new(alloc);
     let one = index(alloc, FILE, "Section: devel\n\n")?;
-    assert_eq!(rt; arrives(alloc, &state, whole(alloc, one.as_str(), none())?)?.as_str(), "1 packages, 4 done");
-    assert_eq!(rt; arrives(alloc, &state, bare(alloc, "")?)?.as_str(), "0 packages, 0 done");
-    assert_eq!(rt; arrives(alloc, &state, MemInbox::new(Vec::new(alloc), none()))?.as_str(), "absent incoming/Packages, 0 done");
-    assert_eq!(rt; arrives(alloc, &state, bare(alloc, one.as_str())?)?.as_str(), "absent incoming/hello_2.10-2_amd64.deb, 0 done");
+    assert_eq!(rt;
+        arrives(alloc, &state, whole(alloc, one.as_str(), none())?)?.as_str(),
+        "1 packages, 4 done"
+    );
+    assert_eq!(rt;
+        arrives(alloc, &state, bare(alloc, "")?)?.as_str(),
+        "0 packages, 0 done"
+    );
+    assert_eq!(rt;
+        arrives(alloc, &state, MemInbox::new(Vec::new(alloc), none()))?.as_str(),
+        "absent incoming/Packages, 0 done"
+    );
+    assert_eq!(rt;
+        arrives(alloc, &state, bare(alloc, one.as_str())?)?.as_str(),
+        "absent incoming/hello_2.10-2_amd64.deb, 0 done"
+    );
     let open = index(alloc, FILE, "Depends: libc6 (>= 2.14) |\n")?;
-    assert_eq!(rt; arrives(alloc, &state, bare(alloc, open.as_str())?)?.as_str(), "malformed incoming/Packages at 1, 0 done");
+    assert_eq!(rt;
+        arrives(alloc, &state, bare(alloc, open.as_str())?)?.as_str(),
+        "malformed incoming/Packages at 1, 0 done"
+    );
     let outside = index(alloc, "Filename: ../x.deb\n", "")?;
-    assert_eq!(rt; arrives(alloc, &state, bare(alloc, outside.as_str())?)?.as_str(), "malformed incoming/Packages at 1, 0 done");
+    assert_eq!(rt;
+        arrives(alloc, &state, bare(alloc, outside.as_str())?)?.as_str(),
+        "malformed incoming/Packages at 1, 0 done"
+    );
     let wrong = index(alloc, OTHER_SHA256, "")?;
-    assert_eq!(rt; arrives(alloc, &state, whole(alloc, wrong.as_str(), none())?)?.as_str(), "sha256 of incoming/hello_2.10-2_amd64.deb: ba7816bf8f01cfea414140de5dae2223b00361a396177a9cb410ff61f20015ad not ba7816bf8f01cfea414140de5dae2223b00361a396177a9cb410ff61f20015ae, 0 done");
+    assert_eq!(rt;
+        arrives(alloc, &state, whole(alloc, wrong.as_str(), none())?)?.as_str(),
+        "sha256 of incoming/hello_2.10-2_amd64.deb: ba7816bf8f01cfea414140de5dae2223b00361a396177a9cb410ff61f20015ad not ba7816bf8f01cfea414140de5dae2223b00361a396177a9cb410ff61f20015ae, 0 done"
+    );
     let longer = index(alloc, OTHER_SIZE, "")?;
-    assert_eq!(rt; arrives(alloc, &state, whole(alloc, longer.as_str(), none())?)?.as_str(), "size of incoming/hello_2.10-2_amd64.deb: 3 not 4, 0 done");
+    assert_eq!(rt;
+        arrives(alloc, &state, whole(alloc, longer.as_str(), none())?)?.as_str(),
+        "size of incoming/hello_2.10-2_amd64.deb: 3 not 4, 0 done"
+    );
     let large = index(alloc, TOO_LARGE, "")?;
-    assert_eq!(rt; arrives(alloc, &state, bare(alloc, large.as_str())?)?.as_str(), "limit 268435456, 0 done");
-    let two = format!(in alloc; "{}Section: devel\n\n{}{}Section: misc\n", one.as_str(), HEAD, FILE)?;
-    assert_eq!(rt; arrives(alloc, &state, whole(alloc, two.as_str(), none())?)?.as_str(), "malformed incoming/Packages at 11, 0 done");
+    assert_eq!(rt;
+        arrives(alloc, &state, bare(alloc, large.as_str())?)?.as_str(),
+        "limit 268435456, 0 done"
+    );
+    let two = format!(in alloc;
+        "{}Section: devel\n\n{}{}Section: misc\n",
+        one.as_str(),
+        HEAD,
+        FILE
+    )?;
+    assert_eq!(rt;
+        arrives(alloc, &state, whole(alloc, two.as_str(), none())?)?.as_str(),
+        "malformed incoming/Packages at 11, 0 done"
+    );
     let clashing = format!(in alloc; "{}{}{}Section: misc\n", one.as_str(), HEAD, FILE)?;
-    assert_eq!(rt; arrives(alloc, &state, whole(alloc, clashing.as_str(), none())?)?.as_str(), "conflict hello_2.10-2_amd64, 0 done");
+    assert_eq!(rt;
+        arrives(alloc, &state, whole(alloc, clashing.as_str(), none())?)?.as_str(),
+        "conflict hello_2.10-2_amd64, 0 done"
+    );
     let mut failing = Vec::new(alloc);
     failing.push(0)?;
-    assert_eq!(rt; arrives(alloc, &state, whole(alloc, one.as_str(), failing)?)?.as_str(), "inbox, 0 done");
+    assert_eq!(rt;
+        arrives(alloc, &state, whole(alloc, one.as_str(), failing)?)?.as_str(),
+        "inbox, 0 done"
+    );
     Ok(())
 }
 
@@ -159,7 +206,9 @@ fn knowing(alloc: Global, index: &str) -> Result<State, Fail> {
     let repo = Name::new(alloc, "local")?;
     let folder = SafePath::new(alloc, "incoming")?;
     let mut inbox = whole(alloc, index, Vec::new(alloc))?;
-    match add(alloc, &mut host, &mut stage, &mut inbox, &state, &repo, &folder) {
+    match add(
+        alloc, &mut host, &mut stage, &mut inbox, &state, &repo, &folder,
+    ) {
         Ok(Arrived::List { list, .. }) => state.known = list,
         _ => return Err(Fail::from("nothing arrived")),
     }
@@ -171,8 +220,14 @@ fn what_is_known_is_not_read_again(rt: HostRuntime) -> Result<(), Fail> {
     let alloc = rt.alloc();
     let one = index(alloc, FILE, "")?;
     let state = knowing(alloc, one.as_str())?;
-    assert_eq!(rt; arrives(alloc, &state, bare(alloc, one.as_str())?)?.as_str(), "1 packages, 0 done");
+    assert_eq!(rt;
+        arrives(alloc, &state, bare(alloc, one.as_str())?)?.as_str(),
+        "1 packages, 0 done"
+    );
     let longer = index(alloc, OTHER_SIZE, "")?;
-    assert_eq!(rt; arrives(alloc, &state, bare(alloc, longer.as_str())?)?.as_str(), "size of incoming/hello_2.10-2_amd64.deb: 3 not 4, 0 done");
+    assert_eq!(rt;
+        arrives(alloc, &state, bare(alloc, longer.as_str())?)?.as_str(),
+        "size of incoming/hello_2.10-2_amd64.deb: 3 not 4, 0 done"
+    );
     Ok(())
 }

@@ -42,7 +42,7 @@ returns-in_err-list-clause-told g c valid small =
     let catalogue : IsCatalogue c.state.inside.known = subst IsCatalogue (sym known) valid.known in
     fault_comes (g.I.Inbox.map c.args.inbox.now) state name folder c.from_residual-in_err-list.result e.0 fault e.1 e.2 c.in_err-list.ensures.fault
     (λ f told. listed_fault f state name folder entries fault (c.in_ok-entries.ensures.told small f told)
-      (subst₂ (λ k o. FaultGives fault (entries_arrive f k o folder entries)) known own (c.in_err-list.ensures.told catalogue small c.in_ok-entries.ensures.short f (c.in_ok-entries.ensures.map ∙ told))))
+    (subst₂ (λ k o. FaultGives fault (entries_arrive f k o folder entries)) known own (c.in_err-list.ensures.told catalogue small c.in_ok-entries.ensures.short f (c.in_ok-entries.ensures.map ∙ told))))
 
 pub returns-clause-fits : goal.returns-clause-fits
 returns-clause-fits g c valid =
@@ -66,7 +66,7 @@ returns-clause-told g c valid small =
     (subst (λ k. Fitting k (list_in (option_copied c.repo-own.result)) c.in_ok-list.list) known (c.in_ok-list.ensures.fits catalogue c.in_ok-entries.ensures.packages)) in
     list_comes (g.I.Inbox.map c.args.inbox.now) state name folder c.in_ok-list.list c.in_ok-date.date c.in_ok-date.ensures.same fits
     (λ f told. listed_arrives f state name folder entries (Ok c.in_ok-list.list) (c.in_ok-entries.ensures.told small f told)
-      (subst₂ (λ k o. entries_arrive f k o folder entries ≡ Ok c.in_ok-list.list) known own (c.in_ok-list.ensures.told catalogue small c.in_ok-entries.ensures.short f (c.in_ok-entries.ensures.map ∙ told))))
+    (subst₂ (λ k o. entries_arrive f k o folder entries ≡ Ok c.in_ok-list.list) known own (c.in_ok-list.ensures.told catalogue small c.in_ok-entries.ensures.short f (c.in_ok-entries.ensures.map ∙ told))))
 
 pub returns-clause-log : goal.returns-clause-log
 returns-clause-log g c =
