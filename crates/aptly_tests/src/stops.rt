@@ -1,6 +1,7 @@
 //! What a stop leaves, and what a fault does.
 use crate::world::{HELLO, answer_to, call, empty_host, inbox_of, said};
-use ap_host::MemHost;
+use ap_host::{Bytes, MemHost};
+use ap_text::SafePath;
 use std::alloc::{AllocError, Global};
 use std::test::Fail;
 
@@ -39,6 +40,29 @@ fn a_stopped_addition_is_done_or_not(rt: HostRuntime) -> Result<(), Fail> {
             assert!(rt; packages == b'0' || packages == b'1', "{choice} {upto}");
         }
     }
+    Ok(())
+}
+
+/// The live root of a store.
+fn root_of(host: &MemHost) -> Result<Option<Bytes>, AllocError> {
+    for (path, bytes) in host.image(host.log().len(), 0)? {
+        if path.as_str() == "db/root" {
+            return Ok(Some(bytes));
+        }
+    }
+    Ok(None)
+}
+
+#[test]
+fn a_lost_package_file_is_told(rt: HostRuntime) -> Result<(), Fail> {
+    let alloc = rt.alloc();
+    let host = added(alloc)?;
+    let root = root_of(&host)?.ok_or("no root")?;
+    let mut base = Vec::new(alloc);
+    base.push((SafePath::fixed(alloc, "db/root")?, root))?;
+    let mut left = MemHost::new(alloc, base, Vec::new(alloc), false)?;
+    let answer = answer_to(alloc, &mut left, "", "repo show local")?;
+    assert!(rt; answer.code == 6 && answer.log.as_str() == "CB" && answer.text.is_empty());
     Ok(())
 }
 
