@@ -1,9 +1,0 @@
-//! Whole calls over a host, an inbox and patterns in memory. This crate has tests alone.
-#![tactic(auto)]
-
-#[cfg(test)]
-mod calls;
-#[cfg(test)]
-mod stops;
-#[cfg(test)]
-mod world;
