@@ -1,6 +1,8 @@
 -- An image is made path by path.
-use Rattle.std.proofs.Common.{◌≡◌, ◌≢◌, ◌⊎◌, inl, inr, ℕ, zero, suc, ◌<◌, ◌+◌, Bool, true, false, take, drop, length, map, List, [], ◌∷◌, ◌++◌, Some, None, IsSome, slice_get, refl, sym, ◌∙◌, ap, subst, arith, append-nil, append_assoc, add-one}
+use Rattle.std.proofs.Common.{◌≡◌, ◌≢◌, ◌⊎◌, inl, inr, ℕ, zero, suc, ◌<◌, ◌+◌, Bool, true, false, take, drop, length, map, List, [], ◌∷◌, ◌++◌, Some, None, IsSome, bytes_eq, slice_get, refl, sym, ◌∙◌, ap, subst, arith, append-nil, append_assoc, add-one}
 use Rattle.std.proofs.lemmas.List.{take-append-drop}
+use Rattle.std.proofs.lemmas.Slice.Eq.{bytes_eq-Decides}
+use Rattle.std.specs.Bool.{if◌then◌else◌}
 use Rattle.std.specs.List.{AllByRecursion}
 use Rattle.std.specs.Ordering.{ordering_reverse, nat_cmp}
 use Rattle.std.specs.Cmp.Lexicographic.{slice_cmp, nat_list_cmp_total}
@@ -8,7 +10,7 @@ use Rattle.std.specs.declared.cmp.Ordering.TheVariants.{Less, Greater}
 use Rattle.ap_host.specs.declared.host.Op.{Op}
 use Rattle.ap_host.specs.declared.host.Op.TheVariants.{Barrier}
 use Rattle.ap_host.specs.Disk.{Path, Content, Files, Log, live_of, Disk, after, settled, disk_of, Image}
-use Rattle.ap_host.specs.Table.{Entries, files_of, SameFiles}
+use Rattle.ap_host.specs.Table.{Entries, files_of, IsOnce, SameFiles}
 use Rattle.ap_host.specs.Names.{Before, IsAscending, IsOneOf}
 use Rattle.ap_host.specs.Images.{AreNamed, kept_after, kept_of, takes_live, IsTaken, IsDrawn, IsChoice}
 use Rattle.ap_host.specs.Drawing.{HaveNoBarrier, IsBarrierEnd, entry_of}
@@ -251,6 +253,19 @@ drawn_along log cut kept choice paths entries same is d = record {
   only = d.only;
 }
 
+free : (p : Path) (es : Entries) → AllByRecursion (λ q. Before p q) (map (λ (e : List ℕ × List ℕ). e.0) es) → files_of es p ≡ None
+free p [] all = refl
+free p (e ∷ es) all = go (bytes_eq p e.0) refl (free p es all.1)
+  where
+    go : (b : Bool) → bytes_eq p e.0 ≡ b → files_of es p ≡ None → (if b then Some e.1 else files_of es p) ≡ None
+    go false is rest = rest
+    go true is rest = absurd (apart p e.0 all.0 ((bytes_eq-Decides p e.0).0 is))
+
+-- files in the order of their paths stand once
+ascending_once : (es : Entries) → IsAscending (map (λ (e : List ℕ × List ℕ). e.0) es) → IsOnce es
+ascending_once [] a = tt
+ascending_once (e ∷ es) a = (free e.0 es a.0, ascending_once es a.1)
+
 -- the image of a choice, where `kept` is what reads gave at the last barrier
 pub chosen : (base : Files) (ops : List Op) (n : ℕ) (kept : Files) (choice : ℕ) (paths : List Path) (entries : Entries) → IsBarrierEnd ops n → SameFiles kept (live_of (record { base = base; ops = take n ops }))
     → AreNamed (record { base = base; ops = ops }) paths → IsDrawn (record { base = kept; ops = drop n ops }) kept choice paths entries → IsChoice (record { base = base; ops = ops }) choice entries
@@ -259,4 +274,4 @@ chosen base ops n kept choice paths entries b same named d =
     let e : after (settled kept) (drop n ops) ≡ after (settled base) ops = cut_disk base ops n b kept is in
     let log : Log = record { base = base; ops = ops } in
     let all = drawn_along log (record { base = kept; ops = drop n ops }) kept choice paths entries e (is ∙ sym (cut_kept base ops n b)) d in
-    record { image = drawn_image log choice paths entries named all; paths = paths; named = named; drawn = all }
+    record { image = drawn_image log choice paths entries named all; paths = paths; named = named; drawn = all; once = ascending_once entries all.ascending }

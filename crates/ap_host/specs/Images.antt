@@ -5,7 +5,7 @@ use Rattle.ap_host.specs.declared.host.Op.{Op}
 use Rattle.ap_host.specs.declared.host.Op.TheVariants.{Barrier}
 use Rattle.ap_host.specs.Disk.{Path, Content, Files, live_step, Log, disk_of, live_of, Image}
 use Rattle.ap_host.specs.Phases.{Touches}
-use Rattle.ap_host.specs.Table.{Entries, files_of}
+use Rattle.ap_host.specs.Table.{Entries, files_of, IsOnce}
 use Rattle.ap_host.specs.Names.{IsAscending, IsOneOf}
 
 -- one of these operations is on the path
@@ -50,9 +50,10 @@ pub record IsDrawn (log : Log) (kept : Files) (choice : ℕ) (paths : List Path)
   pub taken : (i : ℕ) (p : Path) → slice_get paths i ≡ Some p → IsTaken log kept p (files_of entries p) (takes_live choice i)
   pub only : (p : Path) → (IsOneOf p paths → ⊥) → files_of entries p ≡ None
 
--- the image of a choice
+-- the image of a choice, which has each path once
 pub record IsChoice (log : Log) (choice : ℕ) (entries : Entries) : Type 0 where
   pub image : Image log (files_of entries)
   pub paths : List Path
   pub named : AreNamed log paths
   pub drawn : IsDrawn log (kept_of log) choice paths entries
+  pub once : IsOnce entries

@@ -20,6 +20,3 @@ pub use inbox::{Inbox, InboxErr};
 pub use laws::{law_of_absent, law_of_barrier, law_of_live_image, law_of_phases, law_of_untouched};
 pub use mem::MemHost;
 pub use mem_inbox::MemInbox;
-
-#[cfg(test)]
-mod tests;

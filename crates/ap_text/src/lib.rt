@@ -12,6 +12,3 @@ pub use fault::TextFault;
 pub use laws::{decimals_are_names, joined_paths, names_are_paths};
 pub use name::{Name, is_name, is_package_name};
 pub use path::{SafePath, is_safe_path};
-
-#[cfg(test)]
-mod tests;

@@ -16,6 +16,3 @@ pub use fault::RootFault;
 pub use laws::laws_of_root_texts;
 pub use read::read_root;
 pub use write::root_text;
-
-#[cfg(test)]
-mod tests;

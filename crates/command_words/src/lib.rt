@@ -13,8 +13,6 @@ mod list;
 mod piece;
 mod read;
 mod table;
-#[cfg(test)]
-mod tests;
 mod words;
 
 pub use command::{Command, Follow, Origin};

@@ -7,8 +7,6 @@ mod gathered;
 mod line;
 mod read;
 mod stanza;
-#[cfg(test)]
-mod tests;
 mod text;
 mod write;
 

@@ -5,8 +5,6 @@ mod laws;
 mod order;
 mod parts;
 mod runs;
-#[cfg(test)]
-mod tests;
 mod text;
 
 pub use laws::{

@@ -13,6 +13,3 @@ pub use alternative::{Alternative, Group};
 pub use fault::DependsFault;
 pub use laws::{fields_have_one_reading, fields_say_their_groups};
 pub use read::{read_depends, read_provides};
-
-#[cfg(test)]
-mod tests;

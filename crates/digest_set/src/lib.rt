@@ -4,8 +4,6 @@
 mod difference;
 mod facts;
 mod hasher;
-#[cfg(test)]
-mod tests;
 mod written;
 
 pub use difference::mismatch;

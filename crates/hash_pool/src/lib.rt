@@ -8,8 +8,6 @@ mod name;
 mod pool;
 mod reading;
 mod taking;
-#[cfg(test)]
-mod tests;
 
 pub use fault::PoolFault;
 pub use laws::{law_of_growth, law_of_pool_names};

@@ -7,6 +7,3 @@ mod relations;
 
 pub use fault::IndexFault;
 pub use read::read_packages;
-
-#[cfg(test)]
-mod tests;

@@ -10,8 +10,6 @@ mod index;
 mod join;
 mod known;
 mod laws;
-#[cfg(test)]
-mod tests;
 
 pub use arrive::add;
 pub use laws::arrivals_fit;

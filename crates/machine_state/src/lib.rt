@@ -7,8 +7,6 @@ mod limit;
 mod refusal;
 mod repo;
 mod state;
-#[cfg(test)]
-mod tests;
 
 pub use arrived::{Arrived, UpdateFault};
 pub use change::{Change, ChangeFault};

@@ -9,8 +9,6 @@ mod outcome;
 mod queries;
 mod repos;
 mod steps;
-#[cfg(test)]
-mod tests;
 
 pub use laws::{laws_of_steps, queries_are_spelled};
 pub use needs::need;

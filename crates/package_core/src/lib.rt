@@ -21,6 +21,3 @@ pub use laws::{
 };
 pub use order::{compare_packages, has_same_triple};
 pub use package::Package;
-
-#[cfg(test)]
-mod tests;

@@ -11,8 +11,6 @@ mod list;
 mod place;
 mod push;
 mod reduce;
-#[cfg(test)]
-mod tests;
 
 pub use fault::ListFault;
 pub use laws::{packages_join_in_turn, unions_have_what_either_has};

@@ -13,8 +13,6 @@ mod node;
 mod patterns;
 mod prepare;
 mod prepared;
-#[cfg(test)]
-mod tests;
 mod truth;
 mod wanted;
 

@@ -11,8 +11,6 @@ mod query;
 mod read;
 mod reader;
 mod term;
-#[cfg(test)]
-mod tests;
 mod value;
 mod words;
 mod write;

@@ -5,8 +5,6 @@ mod packages;
 mod put;
 mod refusals;
 mod repos;
-#[cfg(test)]
-mod tests;
 mod words;
 
 pub use packages::{package_search, package_show};

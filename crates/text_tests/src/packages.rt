@@ -1,8 +1,10 @@
-//! Worked examples.
-use super::*;
+//! Worked packages.
 use ap_text::SafePath;
 use control_stanza::{Stanza, read_stanzas, write_stanza};
 use digest_set::{What, digests_of};
+use package_core::{
+    CompleteFault, Package, PackageFault, Required, compare_packages, has_same_triple,
+};
 use std::alloc::Global;
 use std::cmp::Ordering;
 use std::test::Fail;

@@ -1,5 +1,5 @@
 //! Worked roots.
-use super::*;
+use catalogue_text::{RootFault, read_root, root_text};
 use std::alloc::{AllocError, Global};
 use std::test::Fail;
 

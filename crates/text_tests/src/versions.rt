@@ -1,4 +1,5 @@
-use super::*;
+//! Worked versions.
+use deb_version::{Relation, Version, VersionFault, compare, meets, version_order_is_total};
 use std::alloc::Global;
 use std::cmp::Ordering;
 use std::test::Fail;

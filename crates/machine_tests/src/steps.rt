@@ -1,7 +1,7 @@
 //! What commands come to on worked examples.
-use crate::{Outcome, Reading, need, step};
 use command_words::{Command, Words, read_words};
 use machine_state::{Arrived, ChangeFault, State};
+use machine_step::{Outcome, Reading, need, step};
 use query_eval::MemPatterns;
 use reply_text::refusal_line;
 use std::alloc::Global;

@@ -1,6 +1,7 @@
 //! Worked examples, and the bounds that no clause can show.
-use crate::read::MOST_STANZA_BYTES;
-use crate::{Stanza, StanzaFault, StanzaKind, Text, read_stanzas, read_stored, write_stanza};
+use control_stanza::{
+    Stanza, StanzaFault, StanzaKind, Text, read_stanzas, read_stored, write_stanza,
+};
 use std::alloc::Global;
 
 fn fault_of(alloc: Global, bytes: &[u8]) -> Option<(u64, StanzaKind)> {
@@ -100,7 +101,7 @@ fn long_text(alloc: Global, letters: usize, end: &[u8]) -> Option<Vec<u8>> {
 
 #[test]
 fn a_stanza_has_at_most_so_many_bytes(rt: HostRuntime) {
-    let most = MOST_STANZA_BYTES as usize;
+    let most = 4_194_304;
     let rows: [(usize, &[u8], Option<u64>); 5] = [
         (most - 3, b"\n", None),
         (most - 2, b"", None),

@@ -1,4 +1,5 @@
-use super::*;
+//! Worked operations: images, reads, and calls that fail.
+use ap_host::{Bytes, Host, HostErr, Inbox, InboxErr, MemHost, MemInbox};
 use ap_text::SafePath;
 use std::alloc::{AllocError, Global};
 use std::test::Fail;
@@ -99,33 +100,50 @@ fn images_are_drawn_by_number(rt: HostRuntime) -> Result<(), Fail> {
         let found = image(&host, upto, choice, alloc)?;
         assert_eq!(rt; found.as_slice(), wanted, "{upto} {choice}");
     }
+    Ok(())
+}
+
+#[test]
+fn a_file_made_anew_may_be_lost(rt: HostRuntime) -> Result<(), Fail> {
+    let alloc = rt.alloc();
+    let mut host = host(alloc, Vec::new(alloc), false)?;
     let a = path(alloc, "a")?;
     host.create(&a)?;
     sync(&mut host, &a)?;
-    let none = image(&host, 8, 1, alloc)?;
+    let none = image(&host, 2, 1, alloc)?;
     assert_eq!(rt; none.as_slice(), b"".as_slice());
     remove(&mut host, &a)?;
-    let live = image(&host, 9, 0, alloc)?;
+    let live = image(&host, 3, 0, alloc)?;
     assert_eq!(rt; live.as_slice(), b"".as_slice());
     Ok(())
+}
+
+fn ordinals(alloc: Global, listed: &[u64]) -> Result<Vec<u64>, AllocError> {
+    let mut failing = Vec::new(alloc);
+    failing.extend_from_slice(listed)?;
+    Ok(failing)
 }
 
 #[test]
 fn listed_calls_fail(rt: HostRuntime) -> Result<(), Fail> {
     let alloc = rt.alloc();
-    let mut failing = Vec::new(alloc);
-    failing.push(1)?;
-    failing.push(3)?;
-    failing.push(5)?;
-    let mut host = host(alloc, failing, true)?;
-    let a = path(alloc, "a")?;
+    let mut host = host(alloc, ordinals(alloc, &[1])?, true)?;
     assert_eq!(rt; host.claim(), Ok(false));
     assert_eq!(rt; host.claim(), Err(HostErr::Failed));
-    assert_eq!(rt; host.length(&a), Ok(Some(3)));
+    assert_eq!(rt; host.claim(), Ok(false));
+    assert_eq!(rt; host.log().len(), 2);
+    Ok(())
+}
+
+#[test]
+fn what_fails_while_it_writes_has_written_half(rt: HostRuntime) -> Result<(), Fail> {
+    let alloc = rt.alloc();
+    let mut host = host(alloc, ordinals(alloc, &[0, 2])?, false)?;
+    let a = path(alloc, "a")?;
     assert_eq!(rt; host.say(b"abcde"), Err(HostErr::Failed));
     assert_eq!(rt; append(&mut host, &a, b"xyz"), Err(HostErr::Failed));
-    assert_eq!(rt; host.log().len(), 3);
-    let live = image(&host, 3, 0, alloc)?;
+    assert_eq!(rt; host.log().len(), 2);
+    let live = image(&host, 2, 0, alloc)?;
     assert_eq!(rt; live.as_slice(), b"a=oldx ".as_slice());
     Ok(())
 }
@@ -134,23 +152,27 @@ fn listed_calls_fail(rt: HostRuntime) -> Result<(), Fail> {
 fn reads_and_names(rt: HostRuntime) -> Result<(), Fail> {
     let alloc = rt.alloc();
     let mut host = host(alloc, Vec::new(alloc), false)?;
-    let a = path(alloc, "a")?;
-    let folder = path(alloc, "f")?;
-    let below = path(alloc, "f/g/h")?;
-    host.create(&below)?;
-    assert_eq!(rt; host.names(&folder)?.len(), 1);
+    host.create(&path(alloc, "f/g/h")?)?;
+    assert_eq!(rt; host.names(&path(alloc, "f")?)?.len(), 1);
     let mut out = [0; 2];
-    assert_eq!(rt; host.read_at(&a, 1, &mut out), Ok(2));
+    assert_eq!(rt; host.read_at(&path(alloc, "a")?, 1, &mut out), Ok(2));
     assert_eq!(rt; out.as_slice(), b"ld".as_slice());
+    Ok(())
+}
+
+#[test]
+fn an_inbox_is_read(rt: HostRuntime) -> Result<(), Fail> {
+    let alloc = rt.alloc();
     let mut files = Vec::new(alloc);
-    files.push((a, Bytes::new(alloc, b"text")?))?;
-    let mut failing = Vec::new(alloc);
-    failing.push(1)?;
-    let mut inbox = MemInbox::new(files, failing);
-    assert_eq!(rt; inbox.length(&below), Ok(None));
-    assert_eq!(rt; inbox.read_at(&folder, 0, &mut out), Err(InboxErr::Failed));
-    let a = path(alloc, "a")?;
-    assert_eq!(rt; inbox.read_at(&a, 3, &mut out), Ok(1));
+    files.push((path(alloc, "a")?, Bytes::new(alloc, b"text")?))?;
+    let mut inbox = MemInbox::new(files, ordinals(alloc, &[1])?);
+    let mut out = [0; 2];
+    assert_eq!(rt; inbox.length(&path(alloc, "b")?), Ok(None));
+    assert_eq!(rt;
+        inbox.read_at(&path(alloc, "a")?, 0, &mut out),
+        Err(InboxErr::Failed)
+    );
+    assert_eq!(rt; inbox.read_at(&path(alloc, "a")?, 3, &mut out), Ok(1));
     assert_eq!(rt; out[0], b't');
     Ok(())
 }

@@ -1,9 +1,11 @@
-//! Worked examples.
-use super::*;
+//! Worked queries: when they are true, and why they are refused.
 use ap_text::Name;
 use control_stanza::read_stanzas;
 use depends_field::read_depends;
 use package_core::Package;
+use query_eval::{
+    EvalFault, MemPatterns, PatternErr, Patterns, Prepared, RegexPatterns, glob_matches, satisfies,
+};
 use query_grammar::read_query;
 use regex::Regex;
 use std::alloc::Global;

@@ -1,9 +1,9 @@
 //! Worked folders.
-use super::*;
 use ap_host::{Bytes, MemHost, MemInbox};
 use ap_text::{Name, SafePath};
 use control_stanza::Text;
 use digest_set::What;
+use local_repo::add;
 use machine_state::{Arrived, Limit, Refusal, Repo, State, UpdateFault};
 use package_list::PackageList;
 use stage_file::Stage;

@@ -1,4 +1,5 @@
-use super::*;
+//! Worked names and paths.
+use ap_text::{Name, SafePath, TextFault, is_name, is_package_name, is_safe_path, write_decimal};
 use std::test::Fail;
 
 const NAMES: [(&str, Option<TextFault>); 8] = [

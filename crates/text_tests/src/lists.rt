@@ -1,7 +1,7 @@
 //! Worked lists.
-use super::*;
 use control_stanza::read_stanzas;
 use package_core::Package;
+use package_list::{ListFault, PackageList};
 use std::alloc::Global;
 
 const FILE: &str =

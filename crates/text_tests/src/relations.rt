@@ -1,5 +1,6 @@
-use super::*;
+//! Worked relation fields.
 use deb_version::Relation;
+use depends_field::{Alternative, DependsFault, read_depends, read_provides};
 use std::alloc::Global;
 use std::test::Fail;
 

@@ -1,4 +1,5 @@
-use super::*;
+//! Worked digests.
+use digest_set::{Digits, Hashing, Said, What, digest_of_hex, digests_of, mismatch};
 use std::test::Fail;
 
 const SHA256: &str = "ba7816bf8f01cfea414140de5dae2223b00361a396177a9cb410ff61f20015ad";

@@ -1,5 +1,5 @@
 //! Worked command lines.
-use crate::{Command, Origin, WordFault, Words, read_words};
+use command_words::{Command, Origin, WordFault, Words, read_words};
 use std::alloc::{AllocError, Global};
 use std::test::Fail;
 

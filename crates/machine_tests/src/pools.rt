@@ -1,9 +1,10 @@
+//! Worked files of a pool.
 ghost use Rattle.std.specs.Prelude.{None};
 
-use super::*;
 use ap_host::{Bytes, Inbox, InboxErr, MemHost, MemInbox};
 use ap_text::SafePath;
 use digest_set::{Digests, Said, What, digest_of_hex};
+use hash_pool::{PoolFault, get, has, length, pool_path, put, take};
 use stage_file::Stage;
 use std::alloc::{AllocError, Global};
 use std::test::Fail;

@@ -1,5 +1,5 @@
-//! Worked examples.
-use super::*;
+//! Worked indexes.
+use index_text::{IndexFault, read_packages};
 use package_core::Package;
 use std::alloc::Global;
 use std::test::Fail;

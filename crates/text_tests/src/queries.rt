@@ -1,6 +1,6 @@
 //! Worked texts, with expected values that were computed by hand from the grammar.
 
-use super::*;
+use query_grammar::{Query, QueryFault, QueryKind, read_filter, read_query, write_query};
 use std::alloc::{AllocError, Global};
 use std::test::Fail;
 

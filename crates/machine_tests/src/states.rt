@@ -1,7 +1,7 @@
 //! Limits, copies and look-ups on examples.
-use crate::{Arrived, Kind, Limit, Refusal, Repo, State};
 use ap_text::Name;
 use control_stanza::Text;
+use machine_state::{Arrived, Kind, Limit, Refusal, Repo, State};
 use package_list::PackageList;
 use std::alloc::Global;
 use std::test::Fail;

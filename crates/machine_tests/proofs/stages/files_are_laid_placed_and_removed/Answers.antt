@@ -3,7 +3,7 @@ use Rattle.ap_host.specs.Disk.{Log, live_of, extended}
 use Rattle.ap_host.proofs.ChangeLemmas.{GoesOn-end, GoesOn-then}
 use Rattle.ap_host.proofs.DiskLemmas.{extended-append}
 use Rattle.stage_file.proofs.StageLemmas.{is_some}
-use Rattle.stage_file.proofs.staging.tests.files_are_laid_placed_and_removed.Goals as goal
+use Rattle.machine_tests.proofs.stages.files_are_laid_placed_and_removed.Goals as goal
 
 pub place-requires : goal.place-requires
 place-requires g c =

@@ -1,13 +1,13 @@
 //! What the lines are on worked examples.
-use crate::{
-    package_search, package_show, refusal_line, repo_added, repo_created, repo_show, usage_line,
-};
 use ap_text::{Name, SafePath};
 use control_stanza::{Text, read_stanzas};
 use digest_set::{Digits, What, digests_of};
 use machine_state::{Kind, Limit, Refusal, Repo};
 use package_core::Package;
 use package_list::PackageList;
+use reply_text::{
+    package_search, package_show, refusal_line, repo_added, repo_created, repo_show, usage_line,
+};
 use std::alloc::Global;
 use std::test::Fail;
 
