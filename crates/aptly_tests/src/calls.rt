@@ -196,8 +196,9 @@ fn what_brings_nothing_new_sets_nothing(rt: HostRuntime) -> Result<(), Fail> {
 
 /// The words, the root of the store, whether another run has it, the exit code, the damaged line, the operations, and what is
 /// said.
-const STORES: [(&str, &str, bool, u8, u64, &str, &str); 7] = [
-    ("repo create local", "", true, 7, 0, "C", ""),
+const STORES: [(&str, &str, bool, u8, u64, &str, &str); 8] = [
+    ("repo list", "", true, 7, 0, "C", ""),
+    ("", "", false, 2, 0, "S", "ERROR: usage at word 0\n"),
     (
         "repo create a/b",
         "",
