@@ -24,6 +24,10 @@ const OTHER_SIZE: &str =
 const TOO_LARGE: &str =
     "Filename: hello_2.10-2_amd64.deb\nSize: 268435457\nSHA256: ba7816bf8f01cfea414140de5dae2223b00361a396177a9cb410ff61f20015ad\n";
 
+/// A stanza of the same package with another section.
+const CLASHING: &str =
+    "Package: hello\nVersion: 2.10-2\nArchitecture: amd64\nFilename: ./hello_2.10-2_amd64.deb\nSize: 3\nMD5sum: 900150983cd24fb0d6963f7d28e17f72\nSHA1: a9993e364706816aba3e25717850c26c9cd0d89d\nSHA256: ba7816bf8f01cfea414140de5dae2223b00361a396177a9cb410ff61f20015ad\nSection: misc\n";
+
 /// A state with the repository `local`, which has no package.
 fn state(alloc: Global) -> Result<State, Fail> {
     let mut state = State::empty(alloc);
@@ -127,74 +131,97 @@ fn index(alloc: Global, file: &str, last: &str) -> Result<String, AllocError> {
     format!(in alloc; "{}{}{}", HEAD, file, last)
 }
 
+/// The fields of the file, the last field, what follows the stanza, whether the body is in the inbox, and what arrives.
+const FOLDERS: [(&str, &str, &str, bool, &str); 9] = [
+    (FILE, "Section: devel\n\n", "", true, "1 packages, 4 done"),
+    (
+        FILE,
+        "",
+        "",
+        false,
+        "absent incoming/hello_2.10-2_amd64.deb, 0 done",
+    ),
+    (
+        FILE,
+        "Depends: libc6 (>= 2.14) |\n",
+        "",
+        false,
+        "malformed incoming/Packages at 1, 0 done",
+    ),
+    (
+        "Filename: ../x.deb\n",
+        "",
+        "",
+        false,
+        "malformed incoming/Packages at 1, 0 done",
+    ),
+    (
+        OTHER_SHA256,
+        "",
+        "",
+        true,
+        "sha256 of incoming/hello_2.10-2_amd64.deb: ba7816bf8f01cfea414140de5dae2223b00361a396177a9cb410ff61f20015ad not ba7816bf8f01cfea414140de5dae2223b00361a396177a9cb410ff61f20015ae, 0 done",
+    ),
+    (
+        OTHER_SIZE,
+        "",
+        "",
+        true,
+        "size of incoming/hello_2.10-2_amd64.deb: 3 not 4, 0 done",
+    ),
+    (TOO_LARGE, "", "", false, "limit 268435456, 0 done"),
+    (
+        FILE,
+        "Section: devel\n\n",
+        "Section: devel\n\n",
+        true,
+        "malformed incoming/Packages at 11, 0 done",
+    ),
+    (
+        FILE,
+        "Section: devel\n\n",
+        CLASHING,
+        true,
+        "conflict hello_2.10-2_amd64, 0 done",
+    ),
+];
+
+/// What arrives of such a folder.
+fn arrives_of(
+    alloc: Global,
+    state: &State,
+    stanza: (&str, &str),
+    more: &str,
+    body: bool,
+) -> Result<String, Fail> {
+    let mut text = index(alloc, stanza.0, stanza.1)?;
+    text.push_str(more)?;
+    let inbox = if body {
+        whole(alloc, text.as_str(), Vec::new(alloc))?
+    } else {
+        bare(alloc, text.as_str())?
+    };
+    arrives(alloc, state, inbox)
+}
+
 #[test]
 fn folders_arrive_or_are_refused(rt: HostRuntime) -> Result<(), Fail> {
     let alloc = rt.alloc();
     let state = state(alloc)?;
-    let none = || Vec::new(alloc);
-    let one = index(alloc, FILE, "Section: devel\n\n")?;
-    assert_eq!(rt;
-        arrives(alloc, &state, whole(alloc, one.as_str(), none())?)?.as_str(),
-        "1 packages, 4 done"
-    );
-    assert_eq!(rt;
-        arrives(alloc, &state, bare(alloc, "")?)?.as_str(),
-        "0 packages, 0 done"
-    );
-    assert_eq!(rt;
-        arrives(alloc, &state, MemInbox::new(Vec::new(alloc), none()))?.as_str(),
-        "absent incoming/Packages, 0 done"
-    );
-    assert_eq!(rt;
-        arrives(alloc, &state, bare(alloc, one.as_str())?)?.as_str(),
-        "absent incoming/hello_2.10-2_amd64.deb, 0 done"
-    );
-    let open = index(alloc, FILE, "Depends: libc6 (>= 2.14) |\n")?;
-    assert_eq!(rt;
-        arrives(alloc, &state, bare(alloc, open.as_str())?)?.as_str(),
-        "malformed incoming/Packages at 1, 0 done"
-    );
-    let outside = index(alloc, "Filename: ../x.deb\n", "")?;
-    assert_eq!(rt;
-        arrives(alloc, &state, bare(alloc, outside.as_str())?)?.as_str(),
-        "malformed incoming/Packages at 1, 0 done"
-    );
-    let wrong = index(alloc, OTHER_SHA256, "")?;
-    assert_eq!(rt;
-        arrives(alloc, &state, whole(alloc, wrong.as_str(), none())?)?.as_str(),
-        "sha256 of incoming/hello_2.10-2_amd64.deb: ba7816bf8f01cfea414140de5dae2223b00361a396177a9cb410ff61f20015ad not ba7816bf8f01cfea414140de5dae2223b00361a396177a9cb410ff61f20015ae, 0 done"
-    );
-    let longer = index(alloc, OTHER_SIZE, "")?;
-    assert_eq!(rt;
-        arrives(alloc, &state, whole(alloc, longer.as_str(), none())?)?.as_str(),
-        "size of incoming/hello_2.10-2_amd64.deb: 3 not 4, 0 done"
-    );
-    let large = index(alloc, TOO_LARGE, "")?;
-    assert_eq!(rt;
-        arrives(alloc, &state, bare(alloc, large.as_str())?)?.as_str(),
-        "limit 268435456, 0 done"
-    );
-    let two = format!(in alloc;
-        "{}Section: devel\n\n{}{}Section: misc\n",
-        one.as_str(),
-        HEAD,
-        FILE
-    )?;
-    assert_eq!(rt;
-        arrives(alloc, &state, whole(alloc, two.as_str(), none())?)?.as_str(),
-        "malformed incoming/Packages at 11, 0 done"
-    );
-    let clashing = format!(in alloc; "{}{}{}Section: misc\n", one.as_str(), HEAD, FILE)?;
-    assert_eq!(rt;
-        arrives(alloc, &state, whole(alloc, clashing.as_str(), none())?)?.as_str(),
-        "conflict hello_2.10-2_amd64, 0 done"
-    );
-    let mut failing = Vec::new(alloc);
-    failing.push(0)?;
-    assert_eq!(rt;
-        arrives(alloc, &state, whole(alloc, one.as_str(), failing)?)?.as_str(),
-        "inbox, 0 done"
-    );
+    for (file, last, more, body, wanted) in FOLDERS {
+        let found = arrives_of(alloc, &state, (file, last), more, body)?;
+        assert_eq!(rt; found.as_str(), wanted);
+    }
+    Ok(())
+}
+
+#[test]
+fn an_inbox_without_an_index_is_told(rt: HostRuntime) -> Result<(), Fail> {
+    let alloc = rt.alloc();
+    let state = state(alloc)?;
+    let empty = MemInbox::new(Vec::new(alloc), Vec::new(alloc));
+    let found = arrives(alloc, &state, empty)?;
+    assert_eq!(rt; found.as_str(), "absent incoming/Packages, 0 done");
     Ok(())
 }
 
@@ -220,13 +247,11 @@ fn what_is_known_is_not_read_again(rt: HostRuntime) -> Result<(), Fail> {
     let alloc = rt.alloc();
     let one = index(alloc, FILE, "")?;
     let state = knowing(alloc, one.as_str())?;
+    let found = arrives_of(alloc, &state, (FILE, ""), "", false)?;
+    assert_eq!(rt; found.as_str(), "1 packages, 0 done");
+    let found = arrives_of(alloc, &state, (OTHER_SIZE, ""), "", false)?;
     assert_eq!(rt;
-        arrives(alloc, &state, bare(alloc, one.as_str())?)?.as_str(),
-        "1 packages, 0 done"
-    );
-    let longer = index(alloc, OTHER_SIZE, "")?;
-    assert_eq!(rt;
-        arrives(alloc, &state, bare(alloc, longer.as_str())?)?.as_str(),
+        found.as_str(),
         "size of incoming/hello_2.10-2_amd64.deb: 3 not 4, 0 done"
     );
     Ok(())
