@@ -1,5 +1,5 @@
 //! What queries find among the packages that a store knows.
-use crate::world::{Answer, answer_to, empty_host, search};
+use crate::world::{answer_to, empty_host, is_answer, search};
 use ap_host::MemHost;
 use query_eval::{MemPatterns, RegexPatterns};
 use std::alloc::{AllocError, Global};
@@ -53,10 +53,6 @@ const QUERIES: [(&str, u8, &str); 9] = [
     ("Name (= \"x", 1, "ERROR: bad query 1 at 8\n"),
 ];
 
-fn is_answer(answer: &Answer, code: u8, text: &str) -> bool {
-    answer.code == code && answer.log.as_str() == "CBS" && answer.text.as_slice() == text.as_bytes()
-}
-
 #[test]
 fn packages_are_asked_for(rt: HostRuntime) -> Result<(), Fail> {
     let alloc = rt.alloc();
@@ -68,7 +64,7 @@ fn packages_are_asked_for(rt: HostRuntime) -> Result<(), Fail> {
     let mut patterns = RegexPatterns::new(alloc);
     for (query, code, text) in QUERIES {
         let answer = search(alloc, &mut host, query, &mut patterns)?;
-        assert!(rt; is_answer(&answer, code, text), "{query}");
+        assert!(rt; is_answer(&answer, code, "CBS", text), "{query}");
     }
     Ok(())
 }
@@ -81,6 +77,6 @@ fn a_pattern_is_too_large(rt: HostRuntime) -> Result<(), Fail> {
     failing.push(0)?;
     let mut patterns = MemPatterns::new(alloc, failing);
     let answer = search(alloc, &mut host, "Name (~ x)", &mut patterns)?;
-    assert!(rt; is_answer(&answer, 1, "ERROR: pattern 1 in query 1 too large\n"));
+    assert!(rt; is_answer(&answer, 1, "CBS", "ERROR: pattern 1 in query 1 too large\n"));
     Ok(())
 }

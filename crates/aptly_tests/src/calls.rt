@@ -1,5 +1,7 @@
 //! What calls answer, say and do.
-use crate::world::{Answer, HELLO, answer_to, answer_with, empty_host, inbox_of, root_of};
+use crate::world::{
+    Answer, HELLO, answer_to, answer_with, empty_host, inbox_of, is_answer, root_of,
+};
 use ap_host::{Bytes, MemHost, Op};
 use ap_text::SafePath;
 use std::alloc::{AllocError, Global};
@@ -73,10 +75,6 @@ const CALLS: [(&str, &str, u8, &str, &str); 11] = [
         "Repo aa created.\nRepo bb created.\nERROR: repo aa exists\n",
     ),
 ];
-
-fn is_answer(answer: &Answer, code: u8, log: &str, text: &str) -> bool {
-    answer.code == code && answer.log.as_str() == log && answer.text.as_slice() == text.as_bytes()
-}
 
 #[test]
 fn a_folder_arrives(rt: HostRuntime) -> Result<(), Fail> {

@@ -10,16 +10,20 @@ use std::alloc::{AllocError, Global};
 const NOW: i64 = 1507969667;
 
 /// An index with one package, as dpkg-scanpackages writes it.
-pub const HELLO: &str =
+pub(crate) const HELLO: &str =
     "Package: hello\nVersion: 2.10-2\nArchitecture: amd64\nMaintainer: Example Maintainer <maint@example.org>\nInstalled-Size: 280\nDepends: libc6 (>= 2.14)\nFilename: ./hello_2.10-2_amd64.deb\nSize: 3\nMD5sum: 900150983cd24fb0d6963f7d28e17f72\nSHA1: a9993e364706816aba3e25717850c26c9cd0d89d\nSHA256: ba7816bf8f01cfea414140de5dae2223b00361a396177a9cb410ff61f20015ad\nSection: devel\nPriority: optional\nDescription: example package based on GNU hello\n The program produces a familiar greeting.\n .\n It serves as an example.\n\n";
 
 /// A store with no file. The calls of these ordinals fail.
-pub fn empty_host(alloc: Global, failing: Vec<u64>) -> Result<MemHost, AllocError> {
+pub(crate) fn empty_host(alloc: Global, failing: Vec<u64>) -> Result<MemHost, AllocError> {
     MemHost::new(alloc, Vec::new(alloc), failing, false)
 }
 
 /// An inbox with this index in the folder `incoming`, and the package file beside it. The calls of these ordinals fail.
-pub fn inbox_of(alloc: Global, index: &str, failing: Vec<u64>) -> Result<MemInbox, AllocError> {
+pub(crate) fn inbox_of(
+    alloc: Global,
+    index: &str,
+    failing: Vec<u64>,
+) -> Result<MemInbox, AllocError> {
     let mut files = Vec::new(alloc);
     let path = SafePath::fixed(alloc, "incoming/Packages")?;
     files.push((path, Bytes::new(alloc, index.as_bytes())?))?;
@@ -39,7 +43,7 @@ fn words_of(alloc: Global, text: &str) -> Result<Words, AllocError> {
 
 /// The store that a later call finds where this one was stopped after so many operations, in the image that the choice
 /// takes. None of its calls fails.
-pub fn reopened(
+pub(crate) fn reopened(
     alloc: Global,
     host: &MemHost,
     upto: usize,
@@ -51,7 +55,7 @@ pub fn reopened(
 }
 
 /// The live root of a store.
-pub fn root_of(host: &MemHost) -> Result<Option<Bytes>, AllocError> {
+pub(crate) fn root_of(host: &MemHost) -> Result<Option<Bytes>, AllocError> {
     for (path, bytes) in host.image(host.log().len(), 0)? {
         if path.as_str() == "db/root" {
             return Ok(Some(bytes));
@@ -115,7 +119,7 @@ fn damaged_line(status: &Status) -> u64 {
 
 /// What a call came to.
 #[derive(Drop)]
-pub struct Answer {
+pub(crate) struct Answer {
     /// The exit code.
     pub code: u8,
     /// The line that is damaged, or 0.
@@ -140,8 +144,13 @@ fn answered(
     })
 }
 
+/// Whether a call ended with this exit code, did operations of these kinds, and said this.
+pub(crate) fn is_answer(answer: &Answer, code: u8, log: &str, text: &str) -> bool {
+    answer.code == code && answer.log.as_str() == log && answer.text.as_slice() == text.as_bytes()
+}
+
 /// One call of these words, over this inbox.
-pub fn answer_with(
+pub(crate) fn answer_with(
     alloc: Global,
     host: &mut MemHost,
     inbox: &mut MemInbox,
@@ -153,7 +162,7 @@ pub fn answer_with(
 }
 
 /// One call of these words, over an inbox with this index.
-pub fn answer_to(
+pub(crate) fn answer_to(
     alloc: Global,
     host: &mut MemHost,
     index: &str,
@@ -164,7 +173,7 @@ pub fn answer_to(
 }
 
 /// A search for packages.
-pub fn search<M: Patterns>(
+pub(crate) fn search<M: Patterns>(
     alloc: Global,
     host: &mut MemHost,
     query: &str,
