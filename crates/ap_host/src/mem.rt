@@ -73,6 +73,13 @@ impl MemHost {
         self.ops.as_slice()
     }
 
+    /// How many calls have failed so far.
+    pub fn faults(&self) -> u64
+        ensures { result ≡ self.now.calls.faults }
+    {
+        self.calls.faults()
+    }
+
     /// The image that a choice takes of the first `upto` operations: files that a stop after them may leave, in the order
     /// of their paths' bytes. Choice 0 takes the live value at each path. Choice 1 takes the value at the last barrier, or
     /// the one at first where there was no barrier, where a stop may leave it, and nothing elsewhere. A choice k from 2 on

@@ -43,6 +43,13 @@ impl MemInbox {
             calls: Ordinals::new(failing),
         }
     }
+
+    /// How many calls have failed so far.
+    pub fn faults(&self) -> u64
+        ensures { result ≡ self.now.calls.faults }
+    {
+        self.calls.faults()
+    }
 }
 
 impl Inbox for MemInbox {

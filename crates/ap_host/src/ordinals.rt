@@ -33,6 +33,13 @@ impl Ordinals {
         }
     }
 
+    /// How many calls have failed.
+    pub fn faults(&self) -> u64
+        ensures { result ≡ self.now.faults }
+    {
+        self.faults
+    }
+
     /// Counts a call, and says whether it is to fail.
     pub fn fails(&mut self) -> bool
         ensures due { result ≡ is_due self.old }
