@@ -1,5 +1,5 @@
 -- What crates above use of names and safe paths.
-use Rattle.std.specs.Prelude.{◌≡◌, ◌≤◌, ◌<◌, ◌^◌, ◌++◌, ℕ, List, [], ◌∷◌, length, IsTrue}
+use Rattle.std.specs.Prelude.{◌≡◌, ◌≤◌, ◌<◌, ◌^◌, ◌++◌, ℕ, List, [], ◌∷◌, length, take, IsTrue}
 use Rattle.std.specs.Fmt.{decimal}
 use Rattle.ap_text.specs.Names.{is_name}
 use Rattle.ap_text.specs.Paths.{is_safe_path, segments, below_folder, is_below}
@@ -16,3 +16,7 @@ pub record JoinedPaths : Type 0 where
 -- the number's digits stand in names and paths
 abbrev pub DecimalsAreNames : Type 0
 DecimalsAreNames = (n : ℕ) → n < 2 ^ 64 → IsTrue (is_name (decimal n)) × (length (decimal n) ≤ 20)
+
+-- some bytes from the front of a name are a name
+abbrev pub FrontsOfNames : Type 0
+FrontsOfNames = (text : List ℕ) → IsTrue (is_name text) → (n : ℕ) → 0 < n → IsTrue (is_name (take n text))

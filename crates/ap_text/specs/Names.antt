@@ -1,5 +1,6 @@
--- Which texts are names, and which of these are package names (Debian Policy 5.6.1, 5.6.7), by their bytes.
-use Rattle.std.specs.Prelude.{ℕ, Bool, not, ◌&&◌, ◌||◌, ◌==◌, nat_le, List, length, slice_index, Option, Some, if◌then◌else◌}
+-- Which texts are names, and which of these name packages (Debian Policy 5.6.1, 5.6.7), architectures and components, by
+-- their bytes.
+use Rattle.std.specs.Prelude.{ℕ, Bool, not, ◌&&◌, ◌||◌, ◌==◌, nat_le, List, length, slice_index, codes, bytes_eq, Option, Some, if◌then◌else◌}
 use Rattle.std.specs.List.{list_all, position}
 
 -- a digit or a letter of ASCII
@@ -20,6 +21,14 @@ is_name text = nat_le (length text) 200 && begins_alphanumeric text && list_all 
 -- a name of two bytes at least and without `_`
 abbrev pub is_package_name : List ℕ → Bool
 is_package_name text = is_name text && nat_le 2 (length text) && list_all (λ b. not (b == 95)) text
+
+-- a name other than `source`, which stands for source packages (Debian Policy 5.6.8); `all` is one
+abbrev pub is_architecture : List ℕ → Bool
+is_architecture text = is_name text && not (bytes_eq text (codes "source"))
+
+-- a name other than `Release`, which is the file beside the components of a distribution (the Debian repository format)
+abbrev pub is_component : List ℕ → Bool
+is_component text = is_name text && not (bytes_eq text (codes "Release"))
 
 -- the first byte that may not stand in a name
 abbrev pub bad_place_of_name : List ℕ → Option ℕ

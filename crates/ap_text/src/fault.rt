@@ -1,3 +1,5 @@
+ghost use Rattle.std.specs.Prelude.{◌≡◌};
+
 /// Why a text is no name or no safe path: the first that holds, in this order.
 #[derive(Clone, Copy, Debug, PartialEq, Eq)]
 pub enum TextFault {
@@ -10,4 +12,13 @@ pub enum TextFault {
     BadByte(u64),
     /// The text is good, and there was no memory to keep it.
     OutOfMemory,
+}
+
+impl TextFault {
+    /// The same fault once more.
+    pub fn copy(&self) -> TextFault
+        ensures { result ≡ self.now }
+    {
+        *self
+    }
 }

@@ -7,8 +7,10 @@ mod laws;
 mod name;
 mod path;
 
-pub use decimal::write_decimal;
+pub use decimal::{read_decimal, write_decimal};
 pub use fault::TextFault;
-pub use laws::{decimals_are_names, joined_paths, names_are_paths};
-pub use name::{Name, is_name, is_package_name};
+pub use laws::{
+    decimals_are_names, fronts_of_names, joined_paths, names_are_paths, numbers_are_decimals,
+};
+pub use name::{Name, is_architecture, is_component, is_name, is_package_name};
 pub use path::{SafePath, is_safe_path};

@@ -3,7 +3,7 @@ ghost use Rattle.std.specs.List.{position, list_all};
 ghost use Rattle.std.specs.Ordering.{nat_cmp};
 ghost use Rattle.std.specs.Cmp.Lexicographic.{slice_cmp};
 ghost use Rattle.ap_text.specs.Faults.{IsNameFault};
-ghost use Rattle.ap_text.specs.Names.{is_alphanumeric as alphanumeric, is_name_byte as name_byte, is_name as name, is_package_name as package_name, bad_place_of_name};
+ghost use Rattle.ap_text.specs.Names.{is_alphanumeric as alphanumeric, is_name_byte as name_byte, is_name as name, is_package_name as package_name, is_architecture as architecture, is_component as component, bad_place_of_name};
 
 use crate::fault::TextFault;
 use std::alloc::{AllocError, Global};
@@ -76,6 +76,21 @@ pub fn is_package_name(text: &str) -> bool
     ensures { result ≡ package_name text.now }
 {
     is_name(text) && text.len() >= 2 && has_no_underscore(text.as_bytes())
+}
+
+/// Whether a text is an architecture: a name other than `source`, which stands for source packages (Debian Policy 5.6.8).
+/// `all` is one.
+pub fn is_architecture(text: &str) -> bool
+    ensures { result ≡ architecture text.now }
+{
+    is_name(text) && text != "source"
+}
+
+/// Whether a text is a component: a name other than `Release`, which is the file beside the components of a distribution.
+pub fn is_component(text: &str) -> bool
+    ensures { result ≡ component text.now }
+{
+    is_name(text) && text != "Release"
 }
 
 /// A name: of a package, an architecture, a component, a distribution or a member of the store.
