@@ -5,5 +5,6 @@ pub mod FieldLemmas
 pub mod Found
 pub mod Only
 pub mod Least
+pub mod SeriesLemmas
 pub mod WriteLemmas
 pub mod Laws

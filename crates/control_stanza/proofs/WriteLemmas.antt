@@ -32,7 +32,7 @@ some_lines (c ∷ cs) h = by_test (c == 10) h
     by_test true h = cc
     by_test false h = of_begun (lines_of (cs ++ 10 ∷ [])) h
 
-lines_append : (t rest : List ℕ) → lines_of (t ++ 10 ∷ rest) ≡ lines_of (t ++ 10 ∷ []) ++ lines_of rest
+pub lines_append : (t rest : List ℕ) → lines_of (t ++ 10 ∷ rest) ≡ lines_of (t ++ 10 ∷ []) ++ lines_of rest
 lines_append [] rest = refl
 lines_append (c ∷ cs) rest = by_test (c == 10) (lines_append cs rest)
   where
@@ -248,7 +248,7 @@ fields_spelled (f ∷ fs) h =
       fields_spelled fs p.1,
     )
 
-distinct : (fields : List Field) → are_distinct fields ≡ true → IsDistinct fields
+pub distinct : (fields : List Field) → are_distinct fields ≡ true → IsDistinct fields
 distinct [] h = tt
 distinct (f ∷ fs) h = let p = and_parts _ (are_distinct fs) h in (not-true _ p.0, distinct fs p.1)
 
@@ -256,7 +256,7 @@ pub text_spells : (fields : List Field) → is_stanza fields ≡ true → Spells
 unfolding is_stanza
 text_spells fields h = fields_spelled fields (and_parts (list_all is_field fields) (are_distinct fields) h).0
 
-some_text : (fields : List Field) → fields ≢ [] → 0 < length (lines_of (stanza_text fields))
+pub some_text : (fields : List Field) → fields ≢ [] → 0 < length (lines_of (stanza_text fields))
 unfolding field_text
 some_text [] h = absurd (h refl)
 some_text (f ∷ fs) h =

@@ -3,6 +3,7 @@ pub mod Fields
 pub mod Names
 pub mod Spelled
 pub mod Reading
+pub mod Series
 pub mod Faults
 pub mod Answers
 pub mod Written

@@ -33,6 +33,24 @@ pub enum StanzaFault {
     OutOfMemory,
 }
 
+impl StanzaKind {
+    /// The same kind once more.
+    pub fn copy(&self) -> StanzaKind
+        ensures { result ≡ self.now }
+    {
+        *self
+    }
+}
+
+impl StanzaFault {
+    /// The same fault once more.
+    pub fn copy(&self) -> StanzaFault
+        ensures { result ≡ self.now }
+    {
+        *self
+    }
+}
+
 impl From<AllocError> for StanzaFault {
     ghost from_gives = { λ _ e. e ≡ OutOfMemory };
 

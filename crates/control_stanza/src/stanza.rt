@@ -17,6 +17,18 @@ pub struct Field {
     pub value: Text,
 }
 
+impl Field {
+    /// The same field once more. Fails only for want of memory.
+    pub fn copy(&self, alloc: Global) -> Result<Field, AllocError>
+        ensures { IfOk result (λ field. field ≡ self.now) }
+    {
+        Ok(Field {
+            name: self.name.copy(alloc)?,
+            value: self.value.copy(alloc)?,
+        })
+    }
+}
+
 /// The fields of a stanza in order, no name twice without ASCII case (Debian Policy 5.1). Contracts see the list.
 #[derive(Debug, Drop)]
 pub struct Stanza {
@@ -154,10 +166,7 @@ fn copy_fields(alloc: Global, fields: &[Field]) -> Result<Vec<Field>, AllocError
 {
     let mut copies = Vec::new(alloc);
     for field in fields {
-        copies.push(Field {
-            name: field.name.copy(alloc)?,
-            value: field.value.copy(alloc)?,
-        })?;
+        copies.push(field.copy(alloc)?)?;
     }
     Ok(copies)
 }

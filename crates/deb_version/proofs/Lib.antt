@@ -4,3 +4,4 @@ pub mod Epochs
 pub mod Numbers
 pub mod OrderLaws
 pub mod Spelled
+pub mod VersionBytes

@@ -1,5 +1,5 @@
 -- The order of versions (Debian Policy 5.6.12), and what a relation asks of it (Debian Policy 7.1).
-use Rattle.std.specs.Prelude.{ℕ, Bool, List, [], ◌∷◌, Option, Some, None}
+use Rattle.std.specs.Prelude.{ℕ, Bool, List, [], ◌∷◌, Option, Some, None, codes}
 use Rattle.std.specs.declared.cmp.Ordering.{Ordering}
 use Rattle.std.specs.Ordering.{ordering_then, nat_cmp, is_lt, is_le, is_eq, is_ge, is_gt}
 use Rattle.std.specs.Str.Parse.{digits_value}
@@ -25,10 +25,22 @@ version_cmp a b =
     (nat_cmp (epoch_number (epoch_of a)) (epoch_number (epoch_of b)))
     (ordering_then (part_cmp (upstream_of a) (upstream_of b)) (part_cmp (revision_part (revision_of a)) (revision_part (revision_of b))))
 
--- a stands in the relation to b, as `<<`, `<=`, `=`, `>=` and `>>` say
+-- how each relation is written
+abbrev pub operator : Relation → List ℕ
+operator Earlier = codes "<<"
+operator EarlierEqual = codes "<="
+operator Equal = codes "="
+operator LaterEqual = codes ">="
+operator Later = codes ">>"
+
+-- what each asks of the order of the two that stand in it
+abbrev pub holds : Relation → Ordering → Bool
+holds Earlier order = is_lt order
+holds EarlierEqual order = is_le order
+holds Equal order = is_eq order
+holds LaterEqual order = is_ge order
+holds Later order = is_gt order
+
+-- a stands in the relation to b
 abbrev pub meets : List ℕ → Relation → List ℕ → Bool
-meets a Earlier b = is_lt (version_cmp a b)
-meets a EarlierEqual b = is_le (version_cmp a b)
-meets a Equal b = is_eq (version_cmp a b)
-meets a LaterEqual b = is_ge (version_cmp a b)
-meets a Later b = is_gt (version_cmp a b)
+meets a relation b = holds relation (version_cmp a b)

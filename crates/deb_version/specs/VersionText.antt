@@ -95,6 +95,10 @@ is_revision_byte c = is_letter c || is_digit c || c == 46 || c == 43 || c == 126
 unfoldable pub is_upstream_byte : Bool → ℕ → Bool
 is_upstream_byte has_epoch c = is_revision_byte c || is_hyphen c || (has_epoch && is_colon c)
 
+-- a byte of a version: a letter, a digit or one of `. + - ~ :`
+abbrev pub is_version_byte : ℕ → Bool
+is_version_byte c = is_upstream_byte true c
+
 -- the place in a text of the byte k of one of its tails
 abbrev pub tail_place : List ℕ → List ℕ → Option ℕ → Option ℕ
 tail_place text tail None = None

@@ -3,7 +3,7 @@
 ghost use Rattle.std.specs.Prelude.{◌≡◌, ◌⊎◌, ◌↔◌, Option, IfOk, IfErr, IsTrue};
 ghost use Rattle.std.specs.Ordering.{nat_cmp};
 ghost use Rattle.std.specs.Cmp.Lexicographic.{slice_cmp};
-ghost use Rattle.deb_version.specs.VersionText.{fault_of, is_version};
+ghost use Rattle.deb_version.specs.VersionText.{fault_of, is_version as version_text};
 
 use crate::parts;
 use std::alloc::{AllocError, Global};
@@ -23,6 +23,24 @@ pub enum VersionFault {
     BadByte(u64),
     /// The text is a version, and there was no memory to keep it.
     OutOfMemory,
+}
+
+impl VersionFault {
+    /// The same fault once more.
+    pub fn copy(&self) -> VersionFault
+        ensures { result ≡ self.now }
+    {
+        *self
+    }
+}
+
+/// Whether a text is a version, `[epoch:]upstream[-revision]` (Debian Policy 5.6.12): whether [`Version::parse`] reads it.
+/// It takes no memory.
+#[tactic(auto, unfolding(crate::specs::VersionText::is_version))]
+pub fn is_version(text: &str) -> bool
+    ensures { result ≡ version_text text.now }
+{
+    parts::fault(text.as_bytes()).is_none()
 }
 
 /// A version, `[epoch:]upstream[-revision]` (Debian Policy 5.6.12), as it was written.
@@ -67,7 +85,7 @@ impl Version {
     /// The version as it was written.
     pub fn as_str(&self) -> &str
         ensures text { result.now ≡ self.now }
-        ensures version { IsTrue (is_version self.now) }
+        ensures version { IsTrue (version_text self.now) }
     {
         self.text.as_str()
     }
@@ -87,8 +105,9 @@ impl Version {
         self.text.as_str() == other.text.as_str()
     }
 
-    /// The order of the two texts by bytes, which isn't the order of versions: that is [`compare`](crate::compare).
-    pub fn order(&self, other: &Version) -> Ordering
+    /// The order of the two texts by bytes, which isn't the order of versions: that is [`compare`](crate::compare). Equal
+    /// in it are only the versions that are written alike.
+    pub fn text_order(&self, other: &Version) -> Ordering
         ensures { result ≡ slice_cmp nat_cmp self.now other.now }
     {
         self.text.as_str().cmp(other.text.as_str())

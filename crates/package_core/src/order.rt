@@ -22,7 +22,7 @@ fn compare_triples(a: &Package, b: &Package) -> Ordering
     if order.is_ne() {
         return order;
     }
-    a.version.order(&b.version)
+    a.version.text_order(&b.version)
 }
 
 #[tactic(auto, unfolding(crate::specs::Order::body_cmp))]

@@ -1,5 +1,7 @@
 //! Worked versions.
-use deb_version::{Relation, Version, VersionFault, compare, meets, version_order_is_total};
+use deb_version::{
+    Relation, Version, VersionFault, compare, copy_relation, meets, version_order_is_total,
+};
 use std::alloc::Global;
 use std::cmp::Ordering;
 use std::test::Fail;
@@ -77,7 +79,9 @@ fn relations_are_read_of_the_order(rt: HostRuntime) -> Result<(), Fail> {
     assert!(rt; meets(&newer, Relation::Later, &older));
     let same = newer.copy(alloc)?;
     assert!(rt; same.is(&newer));
-    assert_eq!(rt; same.order(&older), Ordering::Less);
+    assert_eq!(rt; same.text_order(&older), Ordering::Less);
+    let asked = copy_relation(alloc, &Some((Relation::Later, same)))?;
+    assert!(rt; matches!(&asked, Some((Relation::Later, version)) if version.is(&newer)));
     version_order_is_total();
     Ok(())
 }
