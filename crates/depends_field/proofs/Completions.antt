@@ -10,12 +10,12 @@ use Rattle.depends_field.specs.declared.phase.Kind.TheVariants.{Depends, Provide
 use Rattle.depends_field.specs.declared.phase.Phase.{Phase}
 use Rattle.depends_field.specs.declared.phase.Phase.TheVariants.{Start, Barred, Named, Colon, Parted, Opened, Compared, Versioned, Closed}
 use Rattle.depends_field.specs.Pieces.{inside_after}
-use Rattle.depends_field.specs.Reading.{Read, is_piece, is_any, is_blanks, is_architecture, is_version_word, is_allowed, relation_of, plain, with_arch, with_relation, rested, named, qualified, compared, compared_by, versioned, advanced, ended, is_start, grouped, parted, alternated, barred, with_phase, phased, stepped}
+use Rattle.depends_field.specs.Reading.{Read, is_piece, is_no_qualifier, is_blanks, is_architecture, is_version_word, is_allowed, relation_of, plain, with_arch, with_relation, rested, named, qualified, compared, compared_by, versioned, advanced, ended, is_start, grouped, parted, alternated, barred, with_phase, phased, stepped}
 use Rattle.depends_field.specs.Groups.{AllBlank}
 use Rattle.depends_field.proofs.Found.{same_bytes}
 use Rattle.depends_field.proofs.Walks.{blanks_turn, name_turn}
 use Rattle.depends_field.proofs.Operators.{operator_is, version_bytes, version_turn}
-use Rattle.depends_field.proofs.Only.{architecture_name}
+use Rattle.depends_field.proofs.Only.{architecture_name, no_qualifier_name}
 use Rattle.depends_field.proofs.OnlyGroups.{name_of_package}
 
 -- whether a phase stands in parentheses
@@ -99,18 +99,15 @@ bar_stays : inside_after false (124 ∷ []) ≡ false
 unfolding inside_after
 bar_stays = refl
 
-any_name : is_name (codes "any") ≡ true
-any_name = refl
-
 named_turn : (p : List ℕ) (next : Phase) → named p ≡ Some next → inside_after false p ≡ is_inside next
 unfolding named
 named_turn p next e =
     turn_if (is_package_name p) (inside_after false p) (Named p) next None (λ h. name_turn p (name_of_package p h)) (no_turn (inside_after false p) next) e
 
-qualified_turn : (name p : List ℕ) (next : Phase) → qualified name p ≡ Some next → inside_after false p ≡ is_inside next
+qualified_turn : (kind : Kind) (name p : List ℕ) (next : Phase) → qualified kind name p ≡ Some next → inside_after false p ≡ is_inside next
 unfolding qualified
-qualified_turn name p next e =
-    turn_if (is_any p) (inside_after false p) (Parted (plain name)) next _ (λ h. byte_turn false false p (codes "any") (name_turn (codes "any") any_name) h) (λ o. turn_if (is_architecture p) (inside_after false p) (Parted (with_arch name p)) next None (λ h. name_turn p (architecture_name p h)) (no_turn (inside_after false p) next) o) e
+qualified_turn kind name p next e =
+    turn_if (is_no_qualifier kind p) (inside_after false p) (Parted (plain name)) next _ (λ h. name_turn p (no_qualifier_name kind p h)) (λ o. turn_if (is_architecture p) (inside_after false p) (Parted (with_arch name p)) next None (λ h. name_turn p (architecture_name p h)) (no_turn (inside_after false p) next) o) e
 
 compared_by_turn : (kind : Kind) (base : Alternative) (p : List ℕ) (o : Option Relation) (next : Phase) → relation_of p ≡ o → compared_by kind base o ≡ Some next → inside_after true p ≡ is_inside next
 compared_by_turn kind base p None next o e = cc
@@ -132,7 +129,7 @@ advanced_turn kind Start next p e = named_turn p next e
 advanced_turn kind Barred next p e = named_turn p next e
 advanced_turn kind (Named name) next p e =
     turn_if (is_piece 58 p) (inside_after false p) (Colon name) next _ (λ h. byte_turn false false p (58 ∷ []) colon_stays h) (λ o. turn_if (is_piece 40 p) (inside_after false p) (Opened (plain name)) next None (λ h. byte_turn false true p (40 ∷ []) opens h) (no_turn (inside_after false p) next) o) e
-advanced_turn kind (Colon name) next p e = qualified_turn name p next e
+advanced_turn kind (Colon name) next p e = qualified_turn kind name p next e
 advanced_turn kind (Parted base) next p e =
     turn_if (is_piece 40 p) (inside_after false p) (Opened base) next None (λ h. byte_turn false true p (40 ∷ []) opens h) (no_turn (inside_after false p) next) e
 advanced_turn kind (Opened base) next p e = compared_turn kind base p next e

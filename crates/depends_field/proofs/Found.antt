@@ -13,7 +13,7 @@ use Rattle.depends_field.specs.declared.phase.Kind.{Kind}
 use Rattle.depends_field.specs.declared.phase.Phase.{Phase}
 use Rattle.depends_field.specs.declared.phase.Phase.TheVariants.{Start, Barred, Named, Colon, Parted, Opened, Compared, Versioned, Closed}
 use Rattle.depends_field.specs.Pieces.{is_blank}
-use Rattle.depends_field.specs.Reading.{is_piece, is_any, is_architecture, relation_of, is_allowed, is_version_word, plain, with_arch, with_relation, rested, named, qualified, compared, compared_by, versioned, advanced, ended}
+use Rattle.depends_field.specs.Reading.{is_piece, is_no_qualifier, is_architecture, relation_of, is_allowed, is_version_word, plain, with_arch, with_relation, rested, named, qualified, compared, compared_by, versioned, advanced, ended}
 use Rattle.depends_field.specs.Groups.{AllBlank, QualifierText, Restricts, RestrictionText, AlternativeText}
 
 -- what completes an alternative behind each phase
@@ -27,7 +27,7 @@ pub record BehindName (kind : Kind) (name : List ℕ) (text : List ℕ) (a : Alt
   pub blank_between : AllBlank between
   pub blank_after : AllBlank after
   pub same_name : a.name ≡ name
-  pub qualifier_is : QualifierText qualifier a.arch
+  pub qualifier_is : QualifierText kind qualifier a.arch
   pub restriction_is : RestrictionText kind restriction a.relation
 
 pub record BehindColon (kind : Kind) (name : List ℕ) (text : List ℕ) (a : Alternative) : Type 0 where
@@ -39,7 +39,7 @@ pub record BehindColon (kind : Kind) (name : List ℕ) (text : List ℕ) (a : Al
   pub blank_between : AllBlank between
   pub blank_after : AllBlank after
   pub same_name : a.name ≡ name
-  pub qualifier_is : QualifierText (58 ∷ qualifier) a.arch
+  pub qualifier_is : QualifierText kind (58 ∷ qualifier) a.arch
   pub restriction_is : RestrictionText kind restriction a.relation
 
 pub record BehindQualifier (kind : Kind) (base : Alternative) (text : List ℕ) (a : Alternative) : Type 0 where
@@ -136,9 +136,9 @@ blank_qualified kind base p text a h t = record {
   restriction_is = t.restriction_is;
 }
 
-no_qualifier : (arch : Option (List ℕ)) → arch ≡ None → QualifierText [] arch
-no_qualifier None e = inl refl
-no_qualifier (Some x) e = cc
+no_qualifier : (kind : Kind) (arch : Option (List ℕ)) → arch ≡ None → QualifierText kind [] arch
+no_qualifier kind None e = inl refl
+no_qualifier kind (Some x) e = cc
 
 name_from_qualified : (kind : Kind) (name text : List ℕ) (a : Alternative) → BehindQualifier kind (plain name) text a → BehindName kind name text a
 name_from_qualified kind name text a t = record {
@@ -150,7 +150,7 @@ name_from_qualified kind name text a t = record {
   blank_between = t.blank_between;
   blank_after = t.blank_after;
   same_name = t.same_name;
-  qualifier_is = no_qualifier a.arch t.same_arch;
+  qualifier_is = no_qualifier kind a.arch t.same_arch;
   restriction_is = t.restriction_is;
 }
 
@@ -319,17 +319,17 @@ name_at kind name p text a next e t =
           put_before kind (Named name) p (40 ∷ []) text a (same_bytes p (40 ∷ []) c.0) (opened_name kind name text a (at_phase kind text a (Opened (plain name)) next c.1 t))
     ]
 
-qualifier_any : (p : List ℕ) (arch : Option (List ℕ)) → p ≡ codes "any" → arch ≡ None → QualifierText (58 ∷ p) arch
-qualifier_any p None e h = inr (ap (λ (l : List ℕ). 58 ∷ l) e)
-qualifier_any p (Some x) e h = cc
+qualifier_none : (kind : Kind) (p : List ℕ) (arch : Option (List ℕ)) → is_no_qualifier kind p ≡ true → arch ≡ None → QualifierText kind (58 ∷ p) arch
+qualifier_none kind p None h e = inr (p, refl, h)
+qualifier_none kind p (Some x) h e = cc
 
-qualifier_arch : (p : List ℕ) (arch : Option (List ℕ)) → is_any p ≡ false → is_architecture p ≡ true → arch ≡ Some p → QualifierText (58 ∷ p) arch
-qualifier_arch p None other is h = cc
-qualifier_arch p (Some x) other is h =
+qualifier_arch : (kind : Kind) (p : List ℕ) (arch : Option (List ℕ)) → is_no_qualifier kind p ≡ false → is_architecture p ≡ true → arch ≡ Some p → QualifierText kind (58 ∷ p) arch
+qualifier_arch kind p None other is h = cc
+qualifier_arch kind p (Some x) other is h =
     let same = same_Some x p h in
-    (ap (λ (l : List ℕ). 58 ∷ l) (sym same), ap is_architecture same ∙ is, λ e. false≢true (sym other ∙ ap is_any (sym same ∙ e)))
+    (ap (λ (l : List ℕ). 58 ∷ l) (sym same), ap is_architecture same ∙ is, ap (is_no_qualifier kind) same ∙ other)
 
-colon_behind : (kind : Kind) (name p text : List ℕ) (base a : Alternative) → base.name ≡ name → QualifierText (58 ∷ p) a.arch → BehindQualifier kind base text a → BehindColon kind name (p ++ text) a
+colon_behind : (kind : Kind) (name p text : List ℕ) (base a : Alternative) → base.name ≡ name → QualifierText kind (58 ∷ p) a.arch → BehindQualifier kind base text a → BehindColon kind name (p ++ text) a
 colon_behind kind name p text base a n q t = record {
   qualifier = p;
   between = t.between;
@@ -343,15 +343,15 @@ colon_behind kind name p text base a n q t = record {
   restriction_is = t.restriction_is;
 }
 
-colon_at : (kind : Kind) (name p text : List ℕ) (a : Alternative) (next : Phase) → qualified name p ≡ Some next → Completes kind next text a → BehindColon kind name (p ++ text) a
+colon_at : (kind : Kind) (name p text : List ℕ) (a : Alternative) (next : Phase) → qualified kind name p ≡ Some next → Completes kind next text a → BehindColon kind name (p ++ text) a
 unfolding qualified
 colon_at kind name p text a next e t =
-    elim (chosen (is_any p) (Parted (plain name)) _ next e) [
+    elim (chosen (is_no_qualifier kind p) (Parted (plain name)) _ next e) [
       | inl c ↦ let u = at_phase kind text a (Parted (plain name)) next c.1 t in
-          colon_behind kind name p text (plain name) a refl (qualifier_any p a.arch (same_bytes p (codes "any") c.0) u.same_arch) u
+          colon_behind kind name p text (plain name) a refl (qualifier_none kind p a.arch c.0 u.same_arch) u
       | inr d ↦ let c = only_chosen (is_architecture p) (Parted (with_arch name p)) next d.1 in
           let u = at_phase kind text a (Parted (with_arch name p)) next c.1 t in
-          colon_behind kind name p text (with_arch name p) a refl (qualifier_arch p a.arch d.0 c.0 u.same_arch) u
+          colon_behind kind name p text (with_arch name p) a refl (qualifier_arch kind p a.arch d.0 c.0 u.same_arch) u
     ]
 
 parted_at : (kind : Kind) (base : Alternative) (p text : List ℕ) (a : Alternative) (next : Phase) → cond (is_piece 40 p) (Some (Opened base)) None ≡ Some next → Completes kind next text a → BehindQualifier kind base (p ++ text) a

@@ -14,7 +14,7 @@ use Rattle.depends_field.specs.declared.phase.Kind.TheVariants.{Depends, Provide
 use Rattle.depends_field.specs.declared.phase.Phase.{Phase}
 use Rattle.depends_field.specs.declared.phase.Phase.TheVariants.{Start, Barred, Named, Colon, Parted, Opened, Compared, Versioned, Closed}
 use Rattle.depends_field.specs.Pieces.{is_blank, piece_len, IsCut, front, behind, inside_after}
-use Rattle.depends_field.specs.Reading.{Read, start, is_piece, is_blanks, is_any, is_architecture, is_version_word, is_allowed, relation_of, plain, with_arch, with_relation, rested, named, qualified, compared, compared_by, versioned, advanced, ended, is_start, grouped, parted, alternated, barred, with_phase, phased, stepped, run, groups_read, finished}
+use Rattle.depends_field.specs.Reading.{Read, start, is_piece, is_blanks, is_no_qualifier, is_architecture, is_version_word, is_allowed, relation_of, plain, with_arch, with_relation, rested, named, qualified, compared, compared_by, versioned, advanced, ended, is_start, grouped, parted, alternated, barred, with_phase, phased, stepped, run, groups_read, finished}
 use Rattle.depends_field.specs.Groups.{AllBlank, parted_by, AlternativeText, GroupText, PartsText, Groups}
 use Rattle.depends_field.specs.Faults.{IsReading}
 use Rattle.depends_field.proofs.Cuts.{piece_len_in}
@@ -125,10 +125,10 @@ named_on : (p : List ℕ) (next : Phase) → named p ≡ Some next → IsOn next
 unfolding named
 named_on p next e = on_if (is_package_name p) (Named p) next None (refl, tt) (no_other next) e
 
-qualified_on : (name p : List ℕ) (next : Phase) → qualified name p ≡ Some next → IsOn next
+qualified_on : (kind : Kind) (name p : List ℕ) (next : Phase) → qualified kind name p ≡ Some next → IsOn next
 unfolding qualified
-qualified_on name p next e =
-    on_if (is_any p) (Parted (plain name)) next _ (refl, refl) (λ o. on_if (is_architecture p) (Parted (with_arch name p)) next None (refl, refl) (no_other next) o) e
+qualified_on kind name p next e =
+    on_if (is_no_qualifier kind p) (Parted (plain name)) next _ (refl, refl) (λ o. on_if (is_architecture p) (Parted (with_arch name p)) next None (refl, refl) (no_other next) o) e
 
 compared_by_on : (kind : Kind) (base : Alternative) (o : Option Relation) (next : Phase) → compared_by kind base o ≡ Some next → IsOn next
 compared_by_on kind base None next e = cc
@@ -147,7 +147,7 @@ advanced_on kind Start next p e = named_on p next e
 advanced_on kind Barred next p e = named_on p next e
 advanced_on kind (Named name) next p e =
     on_if (is_piece 58 p) (Colon name) next _ (refl, tt) (λ o. on_if (is_piece 40 p) (Opened (plain name)) next None (refl, tt) (no_other next) o) e
-advanced_on kind (Colon name) next p e = qualified_on name p next e
+advanced_on kind (Colon name) next p e = qualified_on kind name p next e
 advanced_on kind (Parted base) next p e = on_if (is_piece 40 p) (Opened base) next None (refl, tt) (no_other next) e
 advanced_on kind (Opened base) next p e = compared_on kind base p next e
 advanced_on kind (Compared base relation) next p e = versioned_on base relation p next e

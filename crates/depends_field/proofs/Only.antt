@@ -6,10 +6,11 @@ use Rattle.ap_text.specs.Names.{is_name_byte, is_name}
 use Rattle.deb_version.specs.declared.order.Relation.{Relation}
 use Rattle.depends_field.specs.declared.alternative.Alternative.{Alternative}
 use Rattle.depends_field.specs.declared.phase.Kind.{Kind}
+use Rattle.depends_field.specs.declared.phase.Kind.TheVariants.{Depends, Provides}
 use Rattle.depends_field.specs.declared.phase.Phase.{Phase}
 use Rattle.depends_field.specs.declared.phase.Phase.TheVariants.{Named, Colon, Parted, Opened, Compared, Versioned, Closed}
 use Rattle.depends_field.specs.Pieces.{is_blank, is_version_byte}
-use Rattle.depends_field.specs.Reading.{Read, is_any, is_architecture, plain, with_arch, with_relation, rested, qualified, advanced, ended, is_start, with_phase}
+use Rattle.depends_field.specs.Reading.{Read, is_no_qualifier, is_architecture, plain, with_arch, with_relation, rested, qualified, advanced, ended, is_start, with_phase}
 use Rattle.depends_field.specs.Groups.{AllBlank, QualifierText, Restricts}
 use Rattle.depends_field.proofs.Found.{same_bytes}
 use Rattle.depends_field.proofs.Walks.{Walk, walk_on, no_walk, walk_as, some_blanks, walk_blanks, behind_blanks, walk_name, walk_colon, walk_opening, walk_closing}
@@ -62,26 +63,37 @@ pub architecture_name : (w : List ℕ) → is_architecture w ≡ true → is_nam
 unfolding is_architecture
 architecture_name w h = (and_parts (is_name w) _ h).0
 
-pub any_is : (kind : Kind) (name : List ℕ) → advanced kind (Colon name) (codes "any") ≡ Some (Parted (plain name))
-unfolding qualified
-any_is kind name = refl
+any_name : is_name (codes "any") ≡ true
+any_name = refl
 
-arch_is : (kind : Kind) (name w : List ℕ) → is_architecture w ≡ true → w ≢ codes "any" → advanced kind (Colon name) w ≡ Some (Parted (with_arch name w))
-unfolding qualified
-arch_is kind name w h other =
-    cond-false (is_any w) _ _ (false_from_ne_true (is_any w) (λ e. other (same_bytes w (codes "any") e))) ∙ cond-true (is_architecture w) _ _ h
+pub any_open : (kind : Kind) → is_no_qualifier kind (codes "any") ≡ true
+any_open Depends = refl
+any_open Provides = refl
 
-pub qualifier_walk : (kind : Kind) (s : Read) (name qualifier : List ℕ) (arch : Option (List ℕ)) (rest : List ℕ) → QualifierText qualifier arch → is_name_byte (get_or rest 0 0) ≡ false → ToBase kind s (Named name) (record { name = name; arch = arch; relation = None }) (qualifier ++ rest) rest
+-- what is read as no qualifier is a name
+pub no_qualifier_name : (kind : Kind) (w : List ℕ) → is_no_qualifier kind w ≡ true → is_name w ≡ true
+no_qualifier_name Depends w h = ap is_name (same_bytes w (codes "any") h) ∙ any_name
+no_qualifier_name Provides w h = ap is_name (same_bytes w (codes "any") h) ∙ any_name
+
+pub none_is : (kind : Kind) (name w : List ℕ) → is_no_qualifier kind w ≡ true → advanced kind (Colon name) w ≡ Some (Parted (plain name))
+unfolding qualified
+none_is kind name w h = cond-true (is_no_qualifier kind w) _ _ h
+
+arch_is : (kind : Kind) (name w : List ℕ) → is_architecture w ≡ true → is_no_qualifier kind w ≡ false → advanced kind (Colon name) w ≡ Some (Parted (with_arch name w))
+unfolding qualified
+arch_is kind name w h other = cond-false (is_no_qualifier kind w) _ _ other ∙ cond-true (is_architecture w) _ _ h
+
+pub qualifier_walk : (kind : Kind) (s : Read) (name qualifier : List ℕ) (arch : Option (List ℕ)) (rest : List ℕ) → QualifierText kind qualifier arch → is_name_byte (get_or rest 0 0) ≡ false → ToBase kind s (Named name) (record { name = name; arch = arch; relation = None }) (qualifier ++ rest) rest
 qualifier_walk kind s name qualifier None rest (inl none) stop = record {
   next = Named name;
   is = named_base kind name;
   walk = walk_as kind false false (with_phase s (Named name)) (with_phase s (Named name)) (qualifier ++ rest) rest rest (ap (λ (l : List ℕ). l ++ rest) none) (no_walk kind false (with_phase s (Named name)) rest);
 }
-qualifier_walk kind s name qualifier None rest (inr any) stop = record {
+qualifier_walk kind s name qualifier None rest (inr (word, spelled, none)) stop = record {
   next = Parted (plain name);
   is = parted_base kind (plain name);
-  walk = walk_as kind false false (with_phase s (Named name)) (with_phase s (Parted (plain name))) (qualifier ++ rest) (58 ∷ (codes "any" ++ rest)) rest (ap (λ (l : List ℕ). l ++ rest) any) (
-      walk_on kind false false false (with_phase s (Named name)) (with_phase s (Colon name)) (with_phase s (Parted (plain name))) (58 ∷ (codes "any" ++ rest)) (codes "any" ++ rest) rest (walk_colon kind s (Named name) (Colon name) (codes "any" ++ rest) refl) (walk_name kind s (Colon name) (Parted (plain name)) (codes "any") rest refl (any_is kind name) stop)
+  walk = walk_as kind false false (with_phase s (Named name)) (with_phase s (Parted (plain name))) (qualifier ++ rest) (58 ∷ (word ++ rest)) rest (ap (λ (l : List ℕ). l ++ rest) spelled) (
+      walk_on kind false false false (with_phase s (Named name)) (with_phase s (Colon name)) (with_phase s (Parted (plain name))) (58 ∷ (word ++ rest)) (word ++ rest) rest (walk_colon kind s (Named name) (Colon name) (word ++ rest) refl) (walk_name kind s (Colon name) (Parted (plain name)) word rest (no_qualifier_name kind word none) (none_is kind name word none) stop)
       );
 }
 qualifier_walk kind s name qualifier (Some arch) rest q stop = record {

@@ -28,7 +28,7 @@ unrestricted_text : (q between restriction after t : List ℕ) → restriction �
 unrestricted_text q between restriction after t e =
     ap (λ (l : List ℕ). q ++ (between ++ (l ++ (after ++ t)))) e ∙ ap (λ (l : List ℕ). q ++ l) (sym (append_assoc between after t))
 
-behind_name : (kind : Kind) (s : Read) (name : List ℕ) (arch : Option (List ℕ)) (relation : Option (Relation × List ℕ)) (q between restriction after t : List ℕ) → QualifierText q arch → RestrictionText kind restriction relation → AllBlank between → AllBlank after → IsTail t → ToEnd kind s (Named name) (record { name = name; arch = arch; relation = relation }) (q ++ (between ++ (restriction ++ (after ++ t)))) t
+behind_name : (kind : Kind) (s : Read) (name : List ℕ) (arch : Option (List ℕ)) (relation : Option (Relation × List ℕ)) (q between restriction after t : List ℕ) → QualifierText kind q arch → RestrictionText kind restriction relation → AllBlank between → AllBlank after → IsTail t → ToEnd kind s (Named name) (record { name = name; arch = arch; relation = relation }) (q ++ (between ++ (restriction ++ (after ++ t)))) t
 behind_name kind s name arch None q between restriction after t qualifier none hb ha tail =
     let blank : AllBlank (between ++ after) = list_all-append is_blank between after ∙ and_from (list_all is_blank between) (list_all is_blank after) hb ha in
     let first = qualifier_walk kind s name q arch ((between ++ after) ++ t) qualifier (behind_blanks is_name_byte (between ++ after) t blank_not_name blank tail.name) in
@@ -62,10 +62,10 @@ behind_name kind s name arch (Some x) q between restriction after t qualifier r 
           );
     }
 
-qualifier_head : (q : List ℕ) (arch : Option (List ℕ)) (rest : List ℕ) → QualifierText q arch → is_name_byte (get_or rest 0 0) ≡ false → is_name_byte (get_or (q ++ rest) 0 0) ≡ false
-qualifier_head q None rest (inl none) stop = ap (λ (l : List ℕ). is_name_byte (get_or (l ++ rest) 0 0)) none ∙ stop
-qualifier_head q None rest (inr any) stop = ap (λ (l : List ℕ). is_name_byte (get_or (l ++ rest) 0 0)) any
-qualifier_head q (Some arch) rest h stop = ap (λ (l : List ℕ). is_name_byte (get_or (l ++ rest) 0 0)) h.0
+qualifier_head : (kind : Kind) (q : List ℕ) (arch : Option (List ℕ)) (rest : List ℕ) → QualifierText kind q arch → is_name_byte (get_or rest 0 0) ≡ false → is_name_byte (get_or (q ++ rest) 0 0) ≡ false
+qualifier_head kind q None rest (inl none) stop = ap (λ (l : List ℕ). is_name_byte (get_or (l ++ rest) 0 0)) none ∙ stop
+qualifier_head kind q None rest (inr (word, spelled, none)) stop = ap (λ (l : List ℕ). is_name_byte (get_or (l ++ rest) 0 0)) spelled
+qualifier_head kind q (Some arch) rest h stop = ap (λ (l : List ℕ). is_name_byte (get_or (l ++ rest) 0 0)) h.0
 
 restriction_head : (kind : Kind) (restriction : List ℕ) (relation : Option (Relation × List ℕ)) (rest : List ℕ) → RestrictionText kind restriction relation → is_name_byte (get_or rest 0 0) ≡ false → is_name_byte (get_or (restriction ++ rest) 0 0) ≡ false
 restriction_head kind restriction None rest h stop = ap (λ (l : List ℕ). is_name_byte (get_or (l ++ rest) 0 0)) h ∙ stop
@@ -94,7 +94,7 @@ alternative_walk kind s phase a text t begins is tail =
     let name = name_of_package a.name is.name_is in
     let stop2 = behind_blanks is_name_byte is.between (is.restriction ++ (is.after ++ t)) blank_not_name is.blank_between (restriction_head kind is.restriction a.relation (is.after ++ t) is.restriction_is (behind_blanks is_name_byte is.after t blank_not_name is.blank_after tail.name)) in
     let first = walk_blanks kind false s phase is.before t0 begins.rests is.blank_before (name_head a.name t1 name) in
-    let second = walk_name kind s phase (Named a.name) a.name t1 name (begins.names a.name ∙ named_is a.name is.name_is) (qualifier_head is.qualifier a.arch t2 is.qualifier_is stop2) in
+    let second = walk_name kind s phase (Named a.name) a.name t1 name (begins.names a.name ∙ named_is a.name is.name_is) (qualifier_head kind is.qualifier a.arch t2 is.qualifier_is stop2) in
     let third = behind_name kind s a.name a.arch a.relation is.qualifier is.between is.restriction is.after t is.qualifier_is is.restriction_is is.blank_between is.blank_after tail in
     record {
       next = third.next;

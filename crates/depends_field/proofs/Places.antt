@@ -14,7 +14,7 @@ use Rattle.depends_field.specs.declared.phase.Kind.TheVariants.{Depends, Provide
 use Rattle.depends_field.specs.declared.phase.Phase.{Phase}
 use Rattle.depends_field.specs.declared.phase.Phase.TheVariants.{Start, Barred, Named, Colon, Parted, Opened, Compared, Versioned, Closed}
 use Rattle.depends_field.specs.Pieces.{is_blank, is_word_byte, piece_len, IsCut, front, behind, inside_after}
-use Rattle.depends_field.specs.Reading.{Read, start, is_piece, is_any, is_blanks, is_architecture, is_version_word, is_allowed, relation_of, plain, with_arch, with_relation, rested, named, qualified, compared, compared_by, versioned, advanced, ended, is_start, grouped, parted, alternated, barred, with_phase, phased, stepped, run, finished}
+use Rattle.depends_field.specs.Reading.{Read, start, is_piece, is_no_qualifier, is_blanks, is_architecture, is_version_word, is_allowed, relation_of, plain, with_arch, with_relation, rested, named, qualified, compared, compared_by, versioned, advanced, ended, is_start, grouped, parted, alternated, barred, with_phase, phased, stepped, run, finished}
 use Rattle.depends_field.specs.Groups.{AllBlank}
 use Rattle.depends_field.specs.Faults.{IsFirstUnfit}
 use Rattle.depends_field.specs.Places.{BeginsReadable, IsPlace}
@@ -22,7 +22,7 @@ use Rattle.depends_field.proofs.Found.{same_bytes}
 use Rattle.depends_field.proofs.FoundGroups.{blank_front, run_first, groups_from_reading}
 use Rattle.depends_field.proofs.Walks.{Walk, walk_on, no_walk, cut_append, run_append, walk_blanks, walk_name, walk_closing, colon_len}
 use Rattle.depends_field.proofs.Operators.{walk_operator, walk_version}
-use Rattle.depends_field.proofs.Only.{any_is}
+use Rattle.depends_field.proofs.Only.{any_open, none_is}
 use Rattle.depends_field.proofs.OnlyGroups.{parted_is, finish_from_parted}
 use Rattle.depends_field.proofs.Unique.{no_front, runs_of_pieces, unreadable_from}
 use Rattle.depends_field.proofs.Fronts.{MayFollow, follows, piece_of, cut_one, cut_again}
@@ -62,10 +62,10 @@ named_colon : (p : List ℕ) (next : Phase) → named p ≡ Some next → IsColo
 unfolding named
 named_colon p next e = colon_if (is_package_name p) p (Named p) next None (λ h. refl) (nothing_else p next) e
 
-qualified_colon : (name p : List ℕ) (next : Phase) → qualified name p ≡ Some next → IsColonPiece p next
+qualified_colon : (kind : Kind) (name p : List ℕ) (next : Phase) → qualified kind name p ≡ Some next → IsColonPiece p next
 unfolding qualified
-qualified_colon name p next e =
-    colon_if (is_any p) p (Parted (plain name)) next _ (λ h. refl) (λ o. colon_if (is_architecture p) p (Parted (with_arch name p)) next None (λ h. refl) (nothing_else p next) o) e
+qualified_colon kind name p next e =
+    colon_if (is_no_qualifier kind p) p (Parted (plain name)) next _ (λ h. refl) (λ o. colon_if (is_architecture p) p (Parted (with_arch name p)) next None (λ h. refl) (nothing_else p next) o) e
 
 compared_by_colon : (kind : Kind) (base : Alternative) (p : List ℕ) (o : Option Relation) (next : Phase) → compared_by kind base o ≡ Some next → IsColonPiece p next
 compared_by_colon kind base p None next e = cc
@@ -84,7 +84,7 @@ advanced_colon kind Start next p e = named_colon p next e
 advanced_colon kind Barred next p e = named_colon p next e
 advanced_colon kind (Named name) next p e =
     name_colon (is_piece 58 p) p name next _ refl (λ o. colon_if (is_piece 40 p) p (Opened (plain name)) next None (λ h. refl) (nothing_else p next) o) e
-advanced_colon kind (Colon name) next p e = qualified_colon name p next e
+advanced_colon kind (Colon name) next p e = qualified_colon kind name p next e
 advanced_colon kind (Parted base) next p e = colon_if (is_piece 40 p) p (Opened base) next None (λ h. refl) (nothing_else p next) e
 advanced_colon kind (Opened base) next p e = compared_colon kind base p next e
 advanced_colon kind (Compared base relation) next p e = versioned_colon base relation p next e
@@ -201,7 +201,7 @@ barred_completion kind s =
 
 colon_completion : (kind : Kind) (s : Read) (name : List ℕ) → Completion kind (with_phase s (Colon name)) (codes "any")
 colon_completion kind s name =
-    walk_then kind (with_phase s (Colon name)) (with_phase s (Parted (plain name))) (codes "any") [] (walk_name kind s (Colon name) (Parted (plain name)) (codes "any") [] refl (any_is kind name) refl) (ended_completion kind s (Parted (plain name)) (plain name) refl refl refl)
+    walk_then kind (with_phase s (Colon name)) (with_phase s (Parted (plain name))) (codes "any") [] (walk_name kind s (Colon name) (Parted (plain name)) (codes "any") [] refl (none_is kind name (codes "any") (any_open kind)) refl) (ended_completion kind s (Parted (plain name)) (plain name) refl refl refl)
 
 versioned_completion : (kind : Kind) (s : Read) (base : Alternative) → Completion kind (with_phase s (Versioned base)) (codes ")")
 versioned_completion kind s base =

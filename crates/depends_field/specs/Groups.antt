@@ -1,5 +1,5 @@
 -- The grammar of relation fields (Debian Policy 7.1, 7.5), as a relation from a text to what it says.
-use Rattle.std.specs.Prelude.{◌≡◌, ◌⊎◌, ◌++◌, ◌≢◌, ℕ, List, [], ◌∷◌, Option, Some, None, IsTrue, codes, map}
+use Rattle.std.specs.Prelude.{◌≡◌, ◌⊎◌, ◌++◌, ℕ, List, [], ◌∷◌, Option, Some, None, IsTrue, IsFalse, map}
 use Rattle.std.specs.List.{list_all, flat_map, AllZip}
 use Rattle.ap_text.specs.Names.{is_package_name}
 use Rattle.deb_version.specs.declared.order.Relation.{Relation}
@@ -7,7 +7,7 @@ use Rattle.depends_field.specs.declared.alternative.Alternative.{Alternative}
 use Rattle.depends_field.specs.declared.phase.Kind.{Kind}
 use Rattle.depends_field.specs.declared.phase.Kind.TheVariants.{Depends, Provides}
 use Rattle.depends_field.specs.Pieces.{is_blank}
-use Rattle.depends_field.specs.Reading.{is_architecture, relation_of, is_allowed, is_version_word}
+use Rattle.depends_field.specs.Reading.{is_no_qualifier, is_architecture, relation_of, is_allowed, is_version_word}
 
 -- spaces, tabs and line ends alone, or nothing
 abbrev pub AllBlank : List ℕ → Type 0
@@ -17,10 +17,10 @@ AllBlank text = IsTrue (list_all is_blank text)
 abbrev pub parted_by : ℕ → List ℕ → List (List ℕ) → List ℕ
 parted_by byte first others = first ++ flat_map (λ (part : List ℕ). byte ∷ part) others
 
--- nothing, `:any`, or a colon and an architecture
-abbrev pub QualifierText : List ℕ → Option (List ℕ) → Type 0
-QualifierText text None = (text ≡ []) ⊎ (text ≡ codes ":any")
-QualifierText text (Some arch) = (text ≡ 58 ∷ arch) × IsTrue (is_architecture arch) × (arch ≢ codes "any")
+-- nothing, a colon and what is read as no qualifier, as `:any`, or a colon and an architecture
+abbrev pub QualifierText : Kind → List ℕ → Option (List ℕ) → Type 0
+QualifierText kind text None = (text ≡ []) ⊎ ((word : List ℕ) × (text ≡ 58 ∷ word) × IsTrue (is_no_qualifier kind word))
+QualifierText kind text (Some arch) = (text ≡ 58 ∷ arch) × IsTrue (is_architecture arch) × IsFalse (is_no_qualifier kind arch)
 
 -- in parentheses an operator and a version
 pub record Restricts (kind : Kind) (text : List ℕ) (relation : Relation) (version : List ℕ) : Type 0 where
@@ -52,7 +52,7 @@ pub record AlternativeText (kind : Kind) (text : List ℕ) (a : Alternative) : T
   pub blank_between : AllBlank between
   pub blank_after : AllBlank after
   pub name_is : IsTrue (is_package_name a.name)
-  pub qualifier_is : QualifierText qualifier a.arch
+  pub qualifier_is : QualifierText kind qualifier a.arch
   pub restriction_is : RestrictionText kind restriction a.relation
 
 -- one or more alternatives with bars between them; in Provides there is one

@@ -24,6 +24,11 @@ is_blanks piece = is_blank (slice_index piece 0)
 abbrev pub is_any : List ℕ → Bool
 is_any piece = bytes_eq piece (97 ∷ 110 ∷ 121 ∷ [])
 
+-- a qualifier that is read as none
+abbrev pub is_no_qualifier : Kind → List ℕ → Bool
+is_no_qualifier Depends piece = is_any piece
+is_no_qualifier Provides piece = is_any piece
+
 -- a name other than `source`
 unfoldable pub is_architecture : List ℕ → Bool
 is_architecture piece = is_name piece && not (bytes_eq piece (115 ∷ 111 ∷ 117 ∷ 114 ∷ 99 ∷ 101 ∷ []))
@@ -71,8 +76,8 @@ rested (Closed a) = Some (Closed a)
 unfoldable pub named : List ℕ → Option Phase
 named piece = if is_package_name piece then Some (Named piece) else None
 
-unfoldable pub qualified : List ℕ → List ℕ → Option Phase
-qualified name piece = if is_any piece then Some (Parted (plain name)) else if is_architecture piece then Some (Parted (with_arch name piece)) else None
+unfoldable pub qualified : Kind → List ℕ → List ℕ → Option Phase
+qualified kind name piece = if is_no_qualifier kind piece then Some (Parted (plain name)) else if is_architecture piece then Some (Parted (with_arch name piece)) else None
 
 abbrev pub compared_by : Kind → Alternative → Option Relation → Option Phase
 compared_by kind a None = None
@@ -93,7 +98,7 @@ abbrev pub advanced : Kind → Phase → List ℕ → Option Phase
 advanced kind Start piece = named piece
 advanced kind Barred piece = named piece
 advanced kind (Named name) piece = if is_piece 58 piece then Some (Colon name) else if is_piece 40 piece then Some (Opened (plain name)) else None
-advanced kind (Colon name) piece = qualified name piece
+advanced kind (Colon name) piece = qualified kind name piece
 advanced kind (Parted a) piece = if is_piece 40 piece then Some (Opened a) else None
 advanced kind (Opened a) piece = compared kind a piece
 advanced kind (Compared a relation) piece = versioned a relation piece

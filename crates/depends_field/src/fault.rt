@@ -16,6 +16,15 @@ pub enum DependsFault {
     OutOfMemory,
 }
 
+impl DependsFault {
+    /// The same fault.
+    pub fn copy(&self) -> DependsFault
+        ensures { result ≡ self.now }
+    {
+        *self
+    }
+}
+
 impl From<AllocError> for DependsFault {
     ghost from_gives = { λ _ e. e ≡ OutOfMemory };
 

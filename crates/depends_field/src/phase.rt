@@ -1,6 +1,6 @@
 ghost use Rattle.std.specs.Prelude.{◌≡◌, ◌≢◌, IfOk, OnOk, Some, None, if◌then◌else◌};
 ghost use Rattle.ap_text.specs.Names.{is_name as name_text, is_package_name as package_name};
-ghost use Rattle.depends_field.specs.Reading.{is_version_word as version_word, relation_of as relation_of_piece, is_allowed as allowed, plain as plain_alternative, rested as rested_phase, named as named_phase, qualified as qualified_phase, compared as compared_phase, versioned as versioned_phase, advanced as advanced_phase, ended as ended_phase};
+ghost use Rattle.depends_field.specs.Reading.{is_no_qualifier as no_qualifier, is_version_word as version_word, relation_of as relation_of_piece, is_allowed as allowed, plain as plain_alternative, rested as rested_phase, named as named_phase, qualified as qualified_phase, compared as compared_phase, versioned as versioned_phase, advanced as advanced_phase, ended as ended_phase};
 
 use crate::alternative::Alternative;
 use crate::pieces::has_version_bytes;
@@ -135,11 +135,25 @@ fn named(alloc: Global, piece: &[u8]) -> Result<Option<Phase>, AllocError>
     }
 }
 
-#[tactic(auto, unfolding(crate::specs::Reading::qualified, crate::specs::Reading::is_architecture))]
-fn qualified(alloc: Global, name: Name, piece: &[u8]) -> Result<Option<Phase>, AllocError>
-    ensures { IfOk result (λ phase. phase ≡ qualified_phase name piece.now) }
+/// Whether a qualifier is read as none.
+fn is_no_qualifier(kind: Kind, piece: &[u8]) -> bool
+    ensures { result ≡ no_qualifier kind piece.now }
 {
-    if piece == b"any".as_slice() {
+    match kind {
+        Kind::Depends | Kind::Provides => piece == b"any".as_slice(),
+    }
+}
+
+#[tactic(auto, unfolding(crate::specs::Reading::qualified, crate::specs::Reading::is_architecture))]
+fn qualified(
+    alloc: Global,
+    kind: Kind,
+    name: Name,
+    piece: &[u8],
+) -> Result<Option<Phase>, AllocError>
+    ensures { IfOk result (λ phase. phase ≡ qualified_phase kind name piece.now) }
+{
+    if is_no_qualifier(kind, piece) {
         return Ok(Some(Phase::Parted(plain(name))));
     }
     if piece == b"source".as_slice() {
@@ -226,7 +240,7 @@ pub fn advanced(
         Phase::Start | Phase::Barred => named(alloc, piece),
         Phase::Named(name) if piece == b":".as_slice() => Ok(Some(Phase::Colon(name))),
         Phase::Named(name) if piece == b"(".as_slice() => Ok(Some(Phase::Opened(plain(name)))),
-        Phase::Colon(name) => qualified(alloc, name, piece),
+        Phase::Colon(name) => qualified(alloc, kind, name, piece),
         Phase::Parted(alternative) if piece == b"(".as_slice() => {
             Ok(Some(Phase::Opened(alternative)))
         }

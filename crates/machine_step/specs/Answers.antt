@@ -10,7 +10,8 @@ use Rattle.machine_step.specs.declared.outcome.Outcome.{Outcome}
 use Rattle.machine_step.specs.declared.outcome.Reading.{Reading}
 use Rattle.machine_step.specs.declared.outcome.Reading.TheVariants as readings
 use Rattle.machine_step.specs.Early.{AfterNames, bad_query}
-use Rattle.machine_step.specs.Queries.{query_of, patterns_asked}
+use Rattle.query_grammar.specs.Said.{query_of}
+use Rattle.machine_step.specs.Queries.{patterns_asked}
 use Rattle.machine_step.specs.Step.{Came}
 
 -- In a call in which the count of refusals for size and the refused text went from old to new, no text counts as refused for

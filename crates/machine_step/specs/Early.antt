@@ -3,14 +3,15 @@ use Rattle.std.specs.Prelude.{◌≡◌, ℕ, ◌&&◌, Bool, List, [], Option, 
 use Rattle.ap_text.specs.Names.{is_name}
 use Rattle.ap_text.specs.Paths.{is_safe_path}
 use Rattle.command_words.specs.Plain.{PlainCommand, repo_create, repo_add, repo_show, package_search, package_show}
-use Rattle.query_grammar.specs.Tree.{Tree}
+use Rattle.query_tree.specs.Tree.{Tree}
+use Rattle.query_grammar.specs.Said.{query_of}
 use Rattle.machine_state.specs.declared.limit.Kind.TheVariants.{Repo}
 use Rattle.machine_state.specs.declared.refusal.Refusal.{Refusal}
 use Rattle.machine_state.specs.declared.repo.Repo.{Repo as RepoOf}
 use Rattle.machine_state.specs.declared.refusal.Refusal.TheVariants.{NotBuilt, BadName, Exists, Unknown, BadQuery}
 use Rattle.machine_state.specs.State.{repo_of}
 use Rattle.machine_state.specs.Values.{StateView}
-use Rattle.machine_step.specs.Queries.{query_of, patterns_asked, IsPick}
+use Rattle.machine_step.specs.Queries.{patterns_asked, IsPick}
 
 -- the first refusal, and where there is none the second
 abbrev pub or_else : Option Refusal → Option Refusal → Option Refusal

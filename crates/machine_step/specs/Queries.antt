@@ -1,22 +1,13 @@
--- Queries among the words of a command: what their texts spell, and which of their patterns may be refused.
-use Rattle.std.specs.Prelude.{◌≡◌, ℕ, List, [], All, Option, Some, None, Result, Ok, Err, length, nat_lt, if◌then◌else◌}
+-- Queries among the words of a command, by what their texts say: which of their patterns may be refused, and what they find.
+use Rattle.std.specs.Prelude.{◌≡◌, ℕ, List, [], All, Option, Some, None, Result, Ok, Err}
 use Rattle.std.specs.List.{filter}
 use Rattle.package_core.specs.Card.{Card}
-use Rattle.query_grammar.specs.Tree.{Tree}
-use Rattle.query_grammar.specs.Reading.{Reading, tree, fault, reading}
+use Rattle.query_tree.specs.Tree.{Tree}
 use Rattle.query_eval.specs.Build.{IsNoPattern}
 use Rattle.query_eval.specs.Conditions.{patterns_of, IsPattern, IsCondition}
 use Rattle.query_eval.specs.Truth.{matches}
 use Rattle.machine_state.specs.declared.refusal.Refusal.{Refusal}
 use Rattle.machine_state.specs.declared.refusal.Refusal.TheVariants.{BadPattern, PatternTooLarge}
-
-abbrev pub tree_or_place : Reading → Result Tree ℕ
-tree_or_place (tree t) = Ok t
-tree_or_place (fault place kind) = Err place
-
--- The tree that a query's text spells, or the place of its fault, in bytes. A query has at most 4,096 bytes.
-unfoldable pub query_of : List ℕ → Result Tree ℕ
-query_of text = if nat_lt 4096 (length text) then Err 4096 else tree_or_place (reading text)
 
 -- the texts of the `~` conditions of a query, in the order of its text
 abbrev pub patterns_asked : Result Tree ℕ → List (List ℕ)

@@ -19,7 +19,8 @@ use Rattle.local_repo.specs.Answers.{IsArrival}
 use Rattle.local_repo.specs.Fits.{added}
 use Rattle.reply_text.specs.Refusals.{refusal_line}
 use Rattle.reply_text.specs.Replies as replies
-use Rattle.machine_step.specs.Queries.{query_of, found_by}
+use Rattle.query_grammar.specs.Said.{query_of}
+use Rattle.machine_step.specs.Queries.{found_by}
 use Rattle.machine_step.specs.Early.{Refuses, folder_read}
 
 -- a repository as it is made: no comment, no distribution, the component `main`, no package

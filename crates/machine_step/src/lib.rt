@@ -10,7 +10,7 @@ mod queries;
 mod repos;
 mod steps;
 
-pub use laws::{laws_of_steps, queries_are_spelled};
+pub use laws::laws_of_steps;
 pub use needs::need;
 pub use outcome::{Outcome, Reading};
 pub use steps::step;

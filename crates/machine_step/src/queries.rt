@@ -1,12 +1,13 @@
 //! Queries of commands: read, prepared, and asked of the known packages.
 ghost use Rattle.std.specs.Prelude.{◌≡◌, ◌≤◌, IfOk, IfErr, OnOk, None, Some, Ok};
 ghost use Rattle.std.specs.List.{filter};
-ghost use Rattle.query_grammar.specs.Tree.{plain};
+ghost use Rattle.query_tree.specs.Tree.{plain};
+ghost use Rattle.query_grammar.specs.Said.{query_of};
 ghost use Rattle.query_eval.specs.Conditions.{patterns_of};
 ghost use Rattle.query_eval.specs.Truth.{matches};
 ghost use Rattle.machine_step.specs.Answers.{FaultIs, IsFirst, RefusesQuery, Told};
 ghost use Rattle.machine_step.specs.Early.{bad_query};
-ghost use Rattle.machine_step.specs.Queries.{query_of, found_by, IsPick};
+ghost use Rattle.machine_step.specs.Queries.{found_by, IsPick};
 
 use control_stanza::Text;
 use machine_state::{ChangeFault, Refusal, State};

@@ -5,8 +5,8 @@ use Rattle.std.proofs.Math.Seq.{drop-cons}
 use Rattle.std.proofs.lemmas.List.Elements.{All-nil, All-append, All-same}
 use Rattle.query_eval.specs.declared.fault.EvalFault.{EvalFault}
 use Rattle.query_eval.specs.declared.fault.EvalFault.TheVariants.{BadPattern, PatternTooLarge, OutOfMemory}
-use Rattle.query_grammar.specs.declared.query.Query.{Query}
-use Rattle.query_grammar.specs.Tree.{plain, plains, listed}
+use Rattle.query_tree.specs.declared.query.Query.{Query}
+use Rattle.query_tree.specs.Tree.{plain, plains, listed}
 use Rattle.query_eval.specs.declared.node.Node.{Node}
 use Rattle.query_eval.specs.Preparing.{node_tree}
 use Rattle.query_eval.specs.Build.{IsNoPattern, Rose}

@@ -1,8 +1,8 @@
 -- The `~` conditions of a query, and what preparing them answers.
 use Rattle.std.specs.Prelude.{◌≡◌, ℕ, ◌+◌, List, [], ◌∷◌, ◌++◌, length, All, Option, Some, None, IsSomeAnd, ◌≤◌, chars, Result, Ok, Err, OnOk, IfErr}
-use Rattle.query_grammar.specs.declared.query.Test.{Test}
-use Rattle.query_grammar.specs.declared.query.Test.TheVariants.{Equal, Less, LessEqual, GreaterEqual, Greater, Glob, Pattern}
-use Rattle.query_grammar.specs.Tree.{Tree, Trees, any, all, negated, reference, wanted, field, nil, cons}
+use Rattle.query_tree.specs.declared.query.Test.{Test}
+use Rattle.query_tree.specs.declared.query.Test.TheVariants.{Equal, Less, LessEqual, GreaterEqual, Greater, Glob, Pattern}
+use Rattle.query_tree.specs.Tree.{Tree, Trees, any, all, negated, reference, wanted, field, nil, cons}
 use Rattle.regex.specs.Patterns.{default_config}
 use Rattle.regex_syntax.specs.Grammar.{read}
 use Rattle.query_eval.specs.declared.fault.EvalFault.{EvalFault}

@@ -1,10 +1,10 @@
 -- What the prepared form of a query stands for.
 use Rattle.std.specs.Prelude.{ℕ, List}
 use Rattle.std.specs.Option.{option_map}
-use Rattle.query_grammar.specs.declared.query.Test.{Test}
-use Rattle.query_grammar.specs.declared.query.Test.TheVariants as test
-use Rattle.query_grammar.specs.Tree.{Tree, any, all, negated, reference, wanted, field, listed}
-use Rattle.query_grammar.specs.Written.{test_of}
+use Rattle.query_tree.specs.declared.query.Test.{Test}
+use Rattle.query_tree.specs.declared.query.Test.TheVariants as test
+use Rattle.query_tree.specs.Tree.{Tree, any, all, negated, reference, wanted, field, listed}
+use Rattle.query_tree.specs.Written.{test_of}
 use Rattle.query_eval.specs.declared.node.Check.{Check}
 use Rattle.query_eval.specs.declared.node.Check.TheVariants.{Compared, Glob, Pattern}
 use Rattle.query_eval.specs.declared.node.Node.{Node}

@@ -11,9 +11,9 @@ use Rattle.deb_version.specs.VersionOrder.{meets}
 use Rattle.deb_version.specs.VersionText.{is_version}
 use Rattle.package_core.specs.Card.{Card, source_of}
 use Rattle.package_core.specs.Fields.{is_of_file}
-use Rattle.query_grammar.specs.declared.query.Test.{Test}
-use Rattle.query_grammar.specs.declared.query.Test.TheVariants.{Equal, Less, LessEqual, GreaterEqual, Greater, Glob, Pattern}
-use Rattle.query_grammar.specs.Tree.{Tree, Trees, any, all, negated, reference, wanted, field, nil, cons}
+use Rattle.query_tree.specs.declared.query.Test.{Test}
+use Rattle.query_tree.specs.declared.query.Test.TheVariants.{Equal, Less, LessEqual, GreaterEqual, Greater, Glob, Pattern}
+use Rattle.query_tree.specs.Tree.{Tree, Trees, any, all, negated, reference, wanted, field, nil, cons}
 use Rattle.regex.specs.Patterns.{Re, find_str, default_config}
 use Rattle.regex_syntax.specs.Brackets.{Nested}
 use Rattle.regex_syntax.specs.Grammar.{Names, read}

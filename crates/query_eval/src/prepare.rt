@@ -2,8 +2,8 @@
 
 ghost use Rattle.std.specs.Prelude.{◌≡◌, ◌+◌, ◌∷◌, [], IfOk, length, map, Some};
 ghost use Rattle.std.specs.Option.{option_map};
-ghost use Rattle.query_grammar.specs.Tree.{plain, plains, listed};
-ghost use Rattle.query_grammar.specs.Tree as spec;
+ghost use Rattle.query_tree.specs.Tree.{plain, plains, listed};
+ghost use Rattle.query_tree.specs.Tree as spec;
 ghost use Rattle.query_eval.specs.Conditions.{Prepares, patterns_of, patterns_in, pattern_of};
 ghost use Rattle.query_eval.specs.Preparing.{node_tree, check_test};
 

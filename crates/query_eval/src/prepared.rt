@@ -1,7 +1,7 @@
 //! Queries that are ready to be asked.
 
 ghost use Rattle.std.specs.Prelude.{◌≡◌, ◌≤◌, IfOk, IfErr, OnOk, All};
-ghost use Rattle.query_grammar.specs.Tree.{plain};
+ghost use Rattle.query_tree.specs.Tree.{plain};
 ghost use Rattle.query_eval.specs.Conditions.{IsPattern, IsRefused, KeepsRefused, patterns_of};
 ghost use Rattle.query_eval.specs.Truth.{matches as is_true_of};
 
@@ -23,8 +23,8 @@ pub struct Prepared {
 }
 
 impl Model for Prepared {
-    ghost use Rattle.query_grammar.specs.Tree.{Tree};
-    ghost use Rattle.query_grammar.specs.TreeCode.{tree_code};
+    ghost use Rattle.query_tree.specs.Tree.{Tree};
+    ghost use Rattle.query_tree.specs.TreeCode.{tree_code};
 
     ghost Value = { Tree };
 

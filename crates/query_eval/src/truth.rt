@@ -3,7 +3,7 @@
 ghost use Rattle.std.specs.Prelude.{◌≡◌, ◌&&◌, IfOk, Some};
 ghost use Rattle.std.specs.Option.{option_map};
 ghost use Rattle.std.specs.Prelude.{map};
-ghost use Rattle.query_grammar.specs.Tree.{listed};
+ghost use Rattle.query_tree.specs.Tree.{listed};
 ghost use Rattle.query_eval.specs.Preparing.{node_tree, check_test};
 ghost use Rattle.query_eval.specs.Satisfies.{is_wanted as wanted};
 ghost use Rattle.query_eval.specs.Truth.{matches as tree_matches, some_matches, each_matches, passes as value_passes, field_holds as holds_of_field, arch_holds, reference_holds, value_in};

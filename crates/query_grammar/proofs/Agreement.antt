@@ -1,8 +1,8 @@
 -- Reading piece by piece agrees with the grammar.
 use Rattle.std.proofs.Common.{◌≡◌, ℕ, List, [], subst}
-use Rattle.query_grammar.specs.Tree.{Tree}
-use Rattle.query_grammar.specs.Pieces.{pieces, tokens}
-use Rattle.query_grammar.specs.Grammar.{QueryText}
+use Rattle.query_tree.specs.Tree.{Tree}
+use Rattle.query_tree.specs.Pieces.{pieces, tokens}
+use Rattle.query_tree.specs.Grammar.{QueryText}
 use Rattle.query_grammar.specs.Reading.{tree, reading, start}
 use Rattle.query_grammar.proofs.Sound.{run_holds, Stands-start, ReadHolds}
 use Rattle.query_grammar.proofs.Complete.{any-result, result-run}

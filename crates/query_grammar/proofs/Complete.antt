@@ -3,17 +3,17 @@ use Rattle.std.proofs.Common.{◌≡◌, ◌⊎◌, inl, inr, ℕ, suc, zero, �
 use Rattle.deb_version.specs.VersionText.{is_version}
 use Rattle.deb_version.specs.declared.order.Relation.{Relation}
 use Rattle.deb_version.specs.declared.order.Relation.TheVariants as relation
-use Rattle.query_grammar.specs.declared.query.Test.{Test}
-use Rattle.query_grammar.specs.declared.query.Test.TheVariants as test
+use Rattle.query_tree.specs.declared.query.Test.{Test}
+use Rattle.query_tree.specs.declared.query.Test.TheVariants as test
 use Rattle.query_grammar.specs.declared.term.Begun.{Begun}
 use Rattle.query_grammar.specs.declared.term.Begun.TheVariants as so_far
 use Rattle.query_grammar.specs.declared.level.Next.{Next}
 use Rattle.query_grammar.specs.declared.level.Next.TheVariants.{Wanting, Having, Within}
 use Rattle.query_grammar.specs.declared.fault.QueryKind.TheVariants as QueryKind_is
-use Rattle.query_grammar.specs.Tree.{Tree, any, all, negated, reference, wanted, field}
-use Rattle.query_grammar.specs.Pieces.{Token, Piece, token, tokens, behind, gap, word, operator, lone, quoted, broken, mark}
-use Rattle.query_grammar.specs.Words.{is_arch, relation_of, may_test}
-use Rattle.query_grammar.specs.Grammar.{One, AllOf, AnyOf, Between, Followed, Term, Related, Bound, Tested, IsValue, any_of}
+use Rattle.query_tree.specs.Tree.{Tree, any, all, negated, reference, wanted, field}
+use Rattle.query_tree.specs.Pieces.{Token, Piece, token, tokens, behind, gap, word, operator, lone, quoted, broken, mark}
+use Rattle.query_tree.specs.Words.{is_arch, relation_of, may_test}
+use Rattle.query_tree.specs.Grammar.{One, AllOf, AnyOf, Between, Followed, Term, Related, Bound, Tested, IsValue, any_of}
 use Rattle.query_grammar.specs.Reading.{Progress, goes_on, whole, ended, wrong, progress, compared, value_at, test_at, at_end, begun, Level, State, Step, goes, stops, with_member, with_alternative, whole_level, empty_level, having_one, step_having, step_progress, begin_negation, begin_group, step_wanting, step, Reading, tree, fault, finish_having, finish_progress, finish, start, run, negate}
 use Rattle.query_grammar.proofs.WordFacts.{begun-package, begun-field, begun-reference}
 

@@ -4,31 +4,31 @@ use Rattle.std.specs.List.{prefix_len}
 use Rattle.std.proofs.lemmas.Bool.{or_right}
 use Rattle.deb_version.specs.VersionText.{is_version, fault_of, epoch_of, start_of, upstream_in, revision_in, is_epoch, is_revision_byte, is_upstream_byte, bad_in_upstream, bad_in_revision}
 use Rattle.deb_version.specs.Cuts.{is_digit}
-use Rattle.query_grammar.specs.declared.piece.Place.{Place}
-use Rattle.query_grammar.specs.declared.piece.Place.TheVariants.{Outside, BehindWord, Opening, Inside}
-use Rattle.query_grammar.specs.declared.piece.Shape.{Shape}
-use Rattle.query_grammar.specs.declared.piece.Shape.TheVariants.{Blank, Word, Operator, Lone, Quoted, Broken, Mark}
-use Rattle.query_grammar.specs.declared.query.Test.{Test}
-use Rattle.query_grammar.specs.declared.query.Test.TheVariants as test
+use Rattle.query_tree.specs.declared.piece.Place.{Place}
+use Rattle.query_tree.specs.declared.piece.Place.TheVariants.{Outside, BehindWord, Opening, Inside}
+use Rattle.query_tree.specs.declared.piece.Shape.{Shape}
+use Rattle.query_tree.specs.declared.piece.Shape.TheVariants.{Blank, Word, Operator, Lone, Quoted, Broken, Mark}
+use Rattle.query_tree.specs.declared.query.Test.{Test}
+use Rattle.query_tree.specs.declared.query.Test.TheVariants as test
 use Rattle.deb_version.specs.declared.order.Relation.{Relation}
 use Rattle.deb_version.specs.declared.order.Relation.TheVariants as relation
 use Rattle.query_grammar.specs.declared.term.Begun.{Begun}
 use Rattle.query_grammar.specs.declared.term.Begun.TheVariants as so_far
 use Rattle.query_grammar.specs.declared.level.Next.{Next}
 use Rattle.query_grammar.specs.declared.level.Next.TheVariants.{Wanting, Having, Within}
-use Rattle.query_grammar.specs.Tree.{Tree, wanted, field}
-use Rattle.query_grammar.specs.Pieces.{Piece, tokens, word, mark, is_blank, is_word, plain_cut, inner_cut, opening_cut, cut_of, pieces, joined}
-use Rattle.query_grammar.specs.Words.{is_package, is_arch, may_test}
-use Rattle.query_grammar.specs.Grammar.{One, AnyOf, QueryText}
+use Rattle.query_tree.specs.Tree.{Tree, wanted, field}
+use Rattle.query_tree.specs.Pieces.{Piece, tokens, word, mark, is_blank, is_word, plain_cut, inner_cut, opening_cut, cut_of, pieces, joined}
+use Rattle.query_tree.specs.Words.{is_package, is_arch, may_test}
+use Rattle.query_tree.specs.Grammar.{One, AnyOf, QueryText}
 use Rattle.query_grammar.specs.Reading.{goes_on, whole, progress, Level, State, with_member, whole_level, finish}
 use Rattle.query_grammar.specs.Places.{CanBegin}
 use Rattle.query_grammar.proofs.WordFacts.{begun-package}
 use Rattle.query_grammar.proofs.Sound.{run_holds, ReadHolds}
 use Rattle.query_grammar.proofs.Complete.{result_of, state, result-run, Follows, Pauses, paused, pauses-package, pauses-related, pauses-field, on-word, on-mark, ends-mark, begins-word, close, opened-version, compared-version, arch-progress, value-progress, opened-value}
-use Rattle.query_grammar.proofs.Lexing.{NotFirst, Separates, IsCut, FrontCut, place_after, pieces_are}
-use Rattle.query_grammar.proofs.Fronts.{LastSeparates, front_join, other_end}
-use Rattle.query_grammar.proofs.Reach.{NextAt, BegunAt, IsOuter}
-use Rattle.query_grammar.proofs.Viable.{Reach, tokens-append}
+use Rattle.query_tree.proofs.Lexing.{IsOuter, NotFirst, Separates, IsCut, FrontCut, place_after, pieces_are}
+use Rattle.query_tree.proofs.Fronts.{LastSeparates, front_join, other_end, tokens-append}
+use Rattle.query_grammar.proofs.Reach.{NextAt, BegunAt}
+use Rattle.query_grammar.proofs.Viable.{Reach}
 
 abbrev one : List ℕ
 one = 49 ∷ []

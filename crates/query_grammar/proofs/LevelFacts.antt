@@ -7,8 +7,8 @@ use Rattle.query_grammar.specs.declared.level.Next.TheVariants.{Wanting}
 use Rattle.query_grammar.specs.declared.fault.QueryKind.TheVariants.{Trailing, WantClose, TooDeep}
 use Rattle.query_grammar.specs.Reading.{Level, goes, stops, after_whole, begin_negation, begin_group, negated_level, empty_level, tree, fault, finish_having, whole_level}
 use Rattle.query_grammar.specs.Views.{level_view, outer_view}
-use Rattle.query_grammar.specs.Tree.{Tree, listed, any, all}
-use Rattle.query_grammar.specs.Grammar.{all_of, any_of}
+use Rattle.query_tree.specs.Tree.{Tree, listed, any, all}
+use Rattle.query_tree.specs.Grammar.{all_of, any_of}
 
 pub all_one : (ts : List Tree) (t : Tree) → ts ≡ t ∷ [] → t ≡ all_of ts
 all_one ts t e = ap all_of (sym e)

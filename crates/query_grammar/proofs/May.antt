@@ -5,19 +5,19 @@ use Rattle.std.proofs.lemmas.Bool.{or_right, true≢false}
 use Rattle.deb_version.specs.VersionText.{is_version, fault_of, epoch_of, start_of, upstream_in, revision_in, is_epoch, is_revision_byte, is_upstream_byte, bad_in_upstream, bad_in_revision}
 use Rattle.deb_version.specs.Cuts.{is_digit}
 use Rattle.deb_version.specs.declared.order.Relation.{Relation}
-use Rattle.query_grammar.specs.declared.query.Test.{Test}
-use Rattle.query_grammar.specs.declared.piece.Place.{Place}
-use Rattle.query_grammar.specs.declared.piece.Place.TheVariants.{Outside, BehindWord, Opening, Inside}
-use Rattle.query_grammar.specs.declared.piece.Shape.{Shape}
-use Rattle.query_grammar.specs.declared.piece.Shape.TheVariants.{Blank, Word, Operator, Lone, Quoted, Broken, Mark}
+use Rattle.query_tree.specs.declared.query.Test.{Test}
+use Rattle.query_tree.specs.declared.piece.Place.{Place}
+use Rattle.query_tree.specs.declared.piece.Place.TheVariants.{Outside, BehindWord, Opening, Inside}
+use Rattle.query_tree.specs.declared.piece.Shape.{Shape}
+use Rattle.query_tree.specs.declared.piece.Shape.TheVariants.{Blank, Word, Operator, Lone, Quoted, Broken, Mark}
 use Rattle.query_grammar.specs.declared.fault.QueryKind.{QueryKind}
-use Rattle.query_grammar.specs.Pieces.{Piece, token, is_blank, is_word, plain_cut, inner_cut, opening_cut, cut_of, next_place, joined}
-use Rattle.query_grammar.specs.Words.{is_package, is_arch, may_test}
+use Rattle.query_tree.specs.Pieces.{Piece, token, is_blank, is_word, plain_cut, inner_cut, opening_cut, cut_of, next_place, joined}
+use Rattle.query_tree.specs.Words.{is_package, is_arch, may_test}
 use Rattle.query_grammar.specs.Reading.{State, Step, goes, stops, step}
 use Rattle.query_grammar.specs.Places.{CanBegin}
-use Rattle.query_grammar.proofs.Lexing.{NotFirst, Separates, IsCut, FrontCut, place_after}
-use Rattle.query_grammar.proofs.Fronts.{LastSeparates, front_join, other_end, joined-append}
-use Rattle.query_grammar.proofs.Reach.{IsOuter, Open}
+use Rattle.query_tree.proofs.Lexing.{IsOuter, NotFirst, Separates, IsCut, FrontCut, place_after}
+use Rattle.query_tree.proofs.Fronts.{LastSeparates, front_join, other_end, joined-append}
+use Rattle.query_grammar.proofs.Reach.{Open}
 use Rattle.query_grammar.proofs.Viable.{Reach, reach-step}
 use Rattle.query_grammar.proofs.Ends.{viable}
 use Rattle.query_grammar.proofs.PlaceOf.{no_further}

@@ -1,19 +1,19 @@
 -- A fault stands at its place.
 use Rattle.std.proofs.Common.{◌≡◌, ℕ, List, [], ◌∷◌, ◌++◌, length, Option, Some, None, refl, sym, ap, ◌∙◌, subst, append_assoc, arith}
-use Rattle.query_grammar.specs.declared.piece.Place.TheVariants.{Outside}
+use Rattle.query_tree.specs.declared.piece.Place.TheVariants.{Outside}
 use Rattle.query_grammar.specs.declared.fault.QueryKind.{QueryKind}
-use Rattle.query_grammar.specs.Tree.{Tree}
-use Rattle.query_grammar.specs.Pieces.{Piece, token, tokens, pieces}
-use Rattle.query_grammar.specs.Grammar.{QueryText}
+use Rattle.query_tree.specs.Tree.{Tree}
+use Rattle.query_tree.specs.Pieces.{Piece, token, tokens, pieces}
+use Rattle.query_tree.specs.Grammar.{QueryText}
 use Rattle.query_grammar.specs.Reading.{State, goes, stops, step, start, fault, reading}
 use Rattle.query_grammar.specs.Places.{CanBegin, IsPlace}
 use Rattle.query_grammar.proofs.Complete.{result_of, behind-result, any-result}
-use Rattle.query_grammar.proofs.Lexing.{FrontCut}
-use Rattle.query_grammar.proofs.Fronts.{cuts_front, front_split}
+use Rattle.query_tree.proofs.Lexing.{FrontCut}
+use Rattle.query_tree.proofs.Fronts.{front_split, text_front}
 use Rattle.query_grammar.proofs.Viable.{Reach, reach-start, Fails, Stopped, run-stopped}
 use Rattle.query_grammar.proofs.Ends.{viable}
 
-query-result : (levels : ℕ) (text : List ℕ) (t : Tree) → QueryText levels text t → result_of (start levels) (tokens (pieces text)) ≡ Some t
+pub query-result : (levels : ℕ) (text : List ℕ) (t : Tree) → QueryText levels text t → result_of (start levels) (tokens (pieces text)) ≡ Some t
 unfolding QueryText
 query-result levels text t h = any-result levels (tokens (pieces text)) t h
 
@@ -24,10 +24,6 @@ no_further levels front s p ps kind r e (text, rest, t, is, spells) =
     let here = ap (λ qs. result_of (start levels) (tokens qs)) (is ∙ append_assoc front (p ∷ ps) rest) ∙ r.walks (p ∷ (ps ++ rest)) ∙ behind-result s (token p.shape p.bytes) (tokens (ps ++ rest)) ∙ ap (λ n. let got : Option Tree = elim n [ goes u ↦ result_of u (tokens (ps ++ rest)) | stops k ↦ None ] in got) e in
     let none : None ≡ Some t = sym here ∙ read in
     cc
-
-pub text_front : (text : List ℕ) → FrontCut Outside (pieces text) []
-unfolding pieces
-text_front text = (cuts_front (length text) Outside text (omega arith)).1
 
 pub reading_stopped : (text : List ℕ) (place : ℕ) (kind : QueryKind) → reading text ≡ fault place kind → Stopped 64 (pieces text) place kind
 unfolding reading

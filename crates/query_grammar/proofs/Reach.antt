@@ -2,34 +2,28 @@
 use Rattle.std.proofs.Common.{◌≡◌, ℕ, suc, zero, ◌==◌, Bool, true, false, cond, List, [], ◌∷◌, ◌++◌, Option, Some, None, refl, sym, ap, ◌∙◌, subst}
 use Rattle.std.proofs.lemmas.Bool.{eqb-true}
 use Rattle.deb_version.specs.declared.order.Relation.{Relation}
-use Rattle.query_grammar.specs.declared.piece.Place.{Place}
-use Rattle.query_grammar.specs.declared.piece.Place.TheVariants.{Outside, BehindWord, Opening, Inside}
-use Rattle.query_grammar.specs.declared.piece.Shape.{Shape}
-use Rattle.query_grammar.specs.declared.piece.Shape.TheVariants.{Blank, Word, Operator, Lone, Quoted, Broken, Mark}
-use Rattle.query_grammar.specs.declared.query.Test.{Test}
-use Rattle.query_grammar.specs.declared.query.Test.TheVariants as test
+use Rattle.query_tree.specs.declared.piece.Place.{Place}
+use Rattle.query_tree.specs.declared.piece.Place.TheVariants.{Outside, BehindWord, Opening, Inside}
+use Rattle.query_tree.specs.declared.piece.Shape.{Shape}
+use Rattle.query_tree.specs.declared.piece.Shape.TheVariants.{Blank, Word, Operator, Lone, Quoted, Broken, Mark}
+use Rattle.query_tree.specs.declared.query.Test.{Test}
+use Rattle.query_tree.specs.declared.query.Test.TheVariants as test
 use Rattle.deb_version.specs.declared.order.Relation.TheVariants as relation
 use Rattle.query_grammar.specs.declared.term.Begun.{Begun}
 use Rattle.query_grammar.specs.declared.term.Begun.TheVariants as so_far
 use Rattle.query_grammar.specs.declared.level.Next.{Next}
 use Rattle.query_grammar.specs.declared.level.Next.TheVariants.{Wanting, Having, Within}
-use Rattle.query_grammar.specs.Tree.{wanted, field}
-use Rattle.query_grammar.specs.Pieces.{Piece, token, is_blank, next_place, quoted_value}
+use Rattle.query_tree.specs.Tree.{wanted, field}
+use Rattle.query_tree.specs.Pieces.{Piece, token, is_blank, next_place, quoted_value}
 use Rattle.deb_version.specs.VersionText.{is_version}
-use Rattle.query_grammar.specs.Words.{is_package, is_field, is_arch, relation_of, may_test}
+use Rattle.query_tree.specs.Words.{is_package, is_field, is_arch, relation_of, may_test}
 use Rattle.query_grammar.specs.Reading.{Progress, goes_on, whole, ended, wrong, progress, braces_or, compared, version_at, relation_at, value_at, test_at, arch_at, closed_by, package_at, field_at, begun, is_reference, Level, State, Step, goes, stops, with_member, closed_group, step_having, step_progress, begin_negation, begin_group, step_wanting, step_next, step}
-use Rattle.query_grammar.proofs.Lexing.{NotFirst, Separates}
-use Rattle.query_grammar.proofs.Fronts.{LastSeparates}
+use Rattle.query_tree.proofs.Lexing.{IsOuter, NotFirst, Separates}
+use Rattle.query_tree.proofs.Fronts.{LastSeparates}
 
 -- behind these pieces a word may begin
 abbrev pub Open : List Piece → Type 0
 Open front = (rest : List ℕ) → NotFirst is_blank rest → LastSeparates front rest
-
-abbrev pub IsOuter : Place → Type 0
-IsOuter Outside = Unit {0}
-IsOuter BehindWord = Unit {0}
-IsOuter Opening = ⊥
-IsOuter Inside = ⊥
 
 -- where a term that has begun may stand
 abbrev pub BegunAt : Begun → Place → List Piece → Type 0

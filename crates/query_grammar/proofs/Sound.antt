@@ -3,9 +3,10 @@ use Rattle.std.proofs.Common.{◌≡◌, inl, inr, ℕ, suc, zero, ◌+◌, ◌=
 use Rattle.std.proofs.lemmas.Bool.{eqb-true}
 use Rattle.query_grammar.specs.declared.level.Next.{Next}
 use Rattle.query_grammar.specs.declared.level.Next.TheVariants.{Wanting, Having, Within}
-use Rattle.query_grammar.specs.Tree.{Tree}
-use Rattle.query_grammar.specs.Pieces.{Token, Piece, token, tokens, behind, gap, word, mark}
-use Rattle.query_grammar.specs.Grammar.{One, AnyOf, Term}
+use Rattle.query_tree.specs.Tree.{Tree}
+use Rattle.query_tree.specs.Pieces.{Token, Piece, token, tokens, behind, gap, word, mark}
+use Rattle.query_tree.specs.Grammar.{One, AnyOf, Term}
+use Rattle.query_tree.proofs.Fronts.{behind_append}
 use Rattle.query_grammar.specs.Reading.{Progress, goes_on, whole, ended, wrong, progress, at_end, begun, Level, State, Step, goes, stops, with_member, with_alternative, whole_level, closed_group, step_having, step_progress, begin_negation, begin_group, step_wanting, step_next, step, Reading, tree, fault, finish_having, finish_progress, finish, start, run}
 use Rattle.query_grammar.proofs.Stands.{Ready, Done, Ready-member, Ready-empty, Done-comma, Done-bar, Done-whole, bangs, bangs-more}
 use Rattle.query_grammar.proofs.Terms.{Begins, Makes, progress_makes, Ends, at_end-ends, begun_makes}
@@ -168,10 +169,6 @@ finish_next_holds most room at outer l Wanting ps before here e a h = tt
 finish_next_holds most room at outer l Having ps before here e a h = finish_having_holds most room at outer l ps before here e a h
 finish_next_holds most room at outer l (Within b) ps before here e a (front, term, f, r, g) =
     finish_progress_holds most room at outer l ps before front term (at_end b) (e ∙ ap (λ qs. before ++ qs) f) a r (at_end-ends b term g)
-
-pub behind_append : (p : Token) (ts : List Token) → behind p [] ++ ts ≡ behind p ts
-behind_append gap ts = refl
-behind_append p ts = refl
 
 goes_on_holds : (most place at : ℕ) (ps : List Piece) (done : List Token) (p : Token) (next : Step) → ((s : State) (more : List Token) → Stands most s more → ReadHolds most (more ++ tokens ps) (run at s ps)) → StepHolds most (done ++ behind p []) next → ReadHolds most (done ++ behind p (tokens ps)) (elim next as (λ x. Reading) [ goes t ↦ run at t ps | stops kind ↦ fault place kind ])
 goes_on_holds most place at ps done p (goes s) rest h =

@@ -1,8 +1,8 @@
 -- Which tokens stand behind a state of the reader: whatever the reader has read so far, some query begins with it.
 use Rattle.std.proofs.Common.{◌≡◌, inl, inr, ℕ, suc, zero, ◌+◌, List, [], ◌∷◌, ◌++◌, refl, sym, ap, ◌∙◌, subst, append_assoc, append-nil, add-zero, add-suc, arith}
-use Rattle.query_grammar.specs.Tree.{Tree}
-use Rattle.query_grammar.specs.Pieces.{Token, mark}
-use Rattle.query_grammar.specs.Grammar.{One, AllOf, AnyOf, Between, Followed, all_of}
+use Rattle.query_tree.specs.Tree.{Tree}
+use Rattle.query_tree.specs.Pieces.{Token, mark}
+use Rattle.query_tree.specs.Grammar.{One, AllOf, AnyOf, Between, Followed, all_of}
 use Rattle.query_grammar.specs.Reading.{Level, with_member, with_alternative, whole_level, empty_level, negate}
 
 abbrev pub Item : Type 1

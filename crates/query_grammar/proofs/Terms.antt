@@ -4,15 +4,15 @@ use Rattle.std.proofs.lemmas.Bool.{eqb-true}
 use Rattle.deb_version.specs.VersionText.{is_version}
 use Rattle.deb_version.specs.declared.order.Relation.{Relation}
 use Rattle.deb_version.specs.declared.order.Relation.TheVariants as relation
-use Rattle.query_grammar.specs.declared.query.Test.{Test}
-use Rattle.query_grammar.specs.declared.query.Test.TheVariants as test
+use Rattle.query_tree.specs.declared.query.Test.{Test}
+use Rattle.query_tree.specs.declared.query.Test.TheVariants as test
 use Rattle.query_grammar.specs.declared.term.Begun.{Begun}
 use Rattle.query_grammar.specs.declared.term.Begun.TheVariants as so_far
-use Rattle.query_grammar.specs.Tree.{wanted, field}
-use Rattle.query_grammar.specs.Pieces.{Token, word, operator, lone, quoted, broken, mark}
-use Rattle.query_grammar.specs.Words.{is_package, is_arch, is_field, relation_of, may_test}
+use Rattle.query_tree.specs.Tree.{wanted, field}
+use Rattle.query_tree.specs.Pieces.{Token, word, operator, lone, quoted, broken, mark}
+use Rattle.query_tree.specs.Words.{is_package, is_arch, is_field, relation_of, may_test}
 use Rattle.query_grammar.proofs.WordFacts.{reference_parts}
-use Rattle.query_grammar.specs.Grammar.{Term, Related, Bound, Tested}
+use Rattle.query_tree.specs.Grammar.{Term, Related, Bound, Tested}
 use Rattle.query_grammar.specs.Reading.{Progress, goes_on, whole, ended, wrong, progress, version_at, compared, relation_at, valued, value_at, test_at, arch_at, closed_by, braces_or, package_at, field_at, at_end, begun, is_reference}
 
 -- the tokens of a term that has begun

@@ -1,12 +1,12 @@
 -- A turn of the reader's loop: it reads the first piece of the text that is left.
 use Rattle.std.proofs.Common.{◌≡◌, ℕ, ◌+◌, ◌<◌, List, [], ◌∷◌, length, take, drop, refl, sym, ap, ◌∙◌, arith}
-use Rattle.query_grammar.specs.declared.piece.Place.{Place}
-use Rattle.query_grammar.specs.declared.piece.Place.TheVariants.{Outside}
-use Rattle.query_grammar.specs.declared.piece.Shape.{Shape}
+use Rattle.query_tree.specs.declared.piece.Place.{Place}
+use Rattle.query_tree.specs.declared.piece.Place.TheVariants.{Outside}
+use Rattle.query_tree.specs.declared.piece.Shape.{Shape}
 use Rattle.query_grammar.specs.declared.fault.QueryKind.{QueryKind}
-use Rattle.query_grammar.specs.Pieces.{token, next_place, pieces, cut_of, pieces_from}
+use Rattle.query_tree.specs.Pieces.{token, next_place, pieces, cut_of, pieces_from}
 use Rattle.query_grammar.specs.Reading.{State, Step, goes, stops, step, Reading, fault, finish, run, start, reading}
-use Rattle.query_grammar.proofs.Cuts.{pieces_step}
+use Rattle.query_tree.proofs.Cuts.{pieces_step}
 
 module _ (at : ℕ) (s : State) (place : Place) (text : List ℕ) (shape : Shape) (piece behind : List ℕ) (some : 0 < length text) (is : shape ≡ (cut_of place text).shape) (here : piece ≡ take (cut_of place text).size text) (later : behind ≡ drop (cut_of place text).size text) where
   first-piece : pieces_from place text ≡ record { shape = shape; bytes = piece } ∷ pieces_from (next_place place shape) behind

@@ -1,29 +1,22 @@
 -- The place of a fault: some query begins with the pieces that were read, and none with one piece more.
 use Rattle.std.proofs.Common.{◌≡◌, ℕ, ◌+◌, List, [], ◌∷◌, ◌++◌, length, length-append, Option, None, refl, sym, ap, ◌∙◌, subst, append_assoc, append-nil, arith}
-use Rattle.query_grammar.specs.declared.piece.Place.{Place}
-use Rattle.query_grammar.specs.declared.piece.Place.TheVariants.{Outside}
-use Rattle.query_grammar.specs.declared.piece.Shape.{Shape}
-use Rattle.query_grammar.specs.declared.piece.Shape.TheVariants.{Blank, Word, Operator, Lone, Quoted, Broken, Mark}
+use Rattle.query_tree.specs.declared.piece.Place.{Place}
+use Rattle.query_tree.specs.declared.piece.Place.TheVariants.{Outside}
+use Rattle.query_tree.specs.declared.piece.Shape.{Shape}
+use Rattle.query_tree.specs.declared.piece.Shape.TheVariants.{Blank, Word, Operator, Lone, Quoted, Broken, Mark}
 use Rattle.query_grammar.specs.declared.term.Begun.{Begun}
 use Rattle.query_grammar.specs.declared.term.Begun.TheVariants as so_far
 use Rattle.query_grammar.specs.declared.level.Next.{Next}
 use Rattle.query_grammar.specs.declared.level.Next.TheVariants.{Wanting, Having, Within}
 use Rattle.query_grammar.specs.declared.fault.QueryKind.{QueryKind}
-use Rattle.query_grammar.specs.Tree.{Tree}
-use Rattle.query_grammar.specs.Pieces.{Piece, token, tokens, behind, lone, broken, next_place, joined}
+use Rattle.query_tree.specs.Tree.{Tree}
+use Rattle.query_tree.specs.Pieces.{Piece, token, tokens, behind, lone, broken, next_place, joined}
 use Rattle.query_grammar.specs.Reading.{Progress, goes_on, whole, ended, wrong, progress, at_end, Level, State, Step, goes, stops, with_member, step_having, step, start, Reading, fault, finish_having, finish_progress, finish, step_wanting, run}
-use Rattle.query_grammar.proofs.Sound.{Stands, StepHolds, step_holds, Stands-start, behind_append}
+use Rattle.query_grammar.proofs.Sound.{Stands, StepHolds, step_holds, Stands-start}
 use Rattle.query_grammar.proofs.Complete.{result_of, behind-result}
-use Rattle.query_grammar.proofs.Lexing.{IsSound, place_after}
-use Rattle.query_grammar.proofs.Fronts.{joined-append, AllSound}
+use Rattle.query_tree.proofs.Lexing.{IsSound, place_after}
+use Rattle.query_tree.proofs.Fronts.{joined-append, tokens-append, AllSound}
 use Rattle.query_grammar.proofs.Reach.{NextAt, StepAt, step-at}
-
-pub tokens-append : (ps qs : List Piece) → tokens (ps ++ qs) ≡ tokens ps ++ tokens qs
-tokens-append [] qs = refl
-tokens-append (p ∷ ps) qs =
-    let here = token p.shape p.bytes in
-    ap (λ ts. behind here ts) (tokens-append ps qs) ∙ sym (behind_append here (tokens ps ++ tokens qs))
-    ∙ sym (append_assoc (behind here []) (tokens ps) (tokens qs)) ∙ ap (λ ts. ts ++ tokens qs) (behind_append here (tokens ps))
 
 place_after-push : (place : Place) (front : List Piece) (p : Piece) → place_after place (front ++ p ∷ []) ≡ next_place (place_after place front) p.shape
 place_after-push place [] p = refl

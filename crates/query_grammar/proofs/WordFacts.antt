@@ -10,13 +10,12 @@ use Rattle.std.proofs.lemmas.Bool.{eqb-true, and_parts, or_cases, not-true, true
 use Rattle.std.proofs.Math.Bool.{and-true}
 use Rattle.std.proofs.lemmas.Bool.Decides.{nat_tests}
 use Rattle.std.proofs.lemmas.Slice.Eq.{bytes_eq-Decides}
-use Rattle.ap_text.specs.Names.{is_name}
 use Rattle.deb_version.specs.VersionText.{is_version}
-use Rattle.query_grammar.specs.Words.{IsReference, is_package, is_plain_version, is_arch, is_field, is_underscore, is_lower_or_digit, is_upper, is_special_field, has_no_underscore}
+use Rattle.query_tree.specs.Words.{IsReference, is_package, is_plain_version, is_arch, is_field, is_underscore, is_lower_or_digit, is_upper, is_special_field, has_no_underscore}
 use Rattle.query_grammar.specs.Reading.{goes_on, whole, wrong, begun, is_reference, as_reference, reference_in}
 use Rattle.query_grammar.specs.declared.term.Begun.TheVariants.{Package, Field}
 use Rattle.query_grammar.specs.declared.fault.QueryKind.TheVariants.{WantTerm}
-use Rattle.query_grammar.specs.Tree.{reference}
+use Rattle.query_tree.specs.Tree.{reference}
 
 is_arch-nil : is_arch [] ≡ false
 unfolding is_arch
@@ -143,14 +142,6 @@ begun-reference text name version arch r =
     ∙ cond-false (is_field (name ++ 95 ∷ rest)) _ _ (reference-no_field name (95 ∷ rest) r.named)
     ∙ cond-true (is_reference (name ++ 95 ∷ rest)) _ _ (reference_is name version arch r.named r.dated r.bound)
     ∙ (λ i. whole (reference (e i) (g i) (k i)))
-
-pub arch_is_name : (text : List ℕ) → is_arch text ≡ true → is_name text ≡ true
-unfolding is_arch
-arch_is_name text h = (and_parts _ _ h).0
-
-pub package_is_name : (text : List ℕ) → is_package text ≡ true → is_name text ≡ true
-unfolding is_package
-package_is_name text h = (and_parts _ _ (and_parts _ _ h).0).0
 
 -- no `_`, or only one
 pub no_underscore_no_reference : (text : List ℕ) → position_or_len is_underscore text ≡ length text → is_reference text ≡ false

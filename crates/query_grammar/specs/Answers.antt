@@ -1,11 +1,11 @@
 -- What reading a query answers.
 use Rattle.std.specs.Prelude.{◌≡◌, ℕ, ◌<◌, ◌≤◌, ◌⊎◌, List, length, Result, Ok, Err}
-use Rattle.query_grammar.specs.declared.query.Query.{Query}
+use Rattle.query_tree.specs.declared.query.Query.{Query}
 use Rattle.query_grammar.specs.declared.fault.QueryKind.{QueryKind}
 use Rattle.query_grammar.specs.declared.fault.QueryKind.TheVariants.{TooLong}
 use Rattle.query_grammar.specs.declared.fault.QueryFault.{QueryFault}
 use Rattle.query_grammar.specs.declared.fault.QueryFault.TheVariants.{At, OutOfMemory}
-use Rattle.query_grammar.specs.Tree.{Tree, plain}
+use Rattle.query_tree.specs.Tree.{Tree, plain}
 use Rattle.query_grammar.specs.Places.{IsPlace}
 use Rattle.query_grammar.specs.Kinds.{IsFirstKind}
 use Rattle.query_grammar.specs.Reading.{reading, fault}

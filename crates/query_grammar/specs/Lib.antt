@@ -1,11 +1,6 @@
-pub mod Tree
-pub mod Pieces
-pub mod Words
-pub mod Grammar
 pub mod Reading
+pub mod Said
 pub mod Views
 pub mod Answers
 pub mod Places
-pub mod Written
-pub mod TreeCode
 pub mod Kinds

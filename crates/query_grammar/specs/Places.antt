@@ -1,8 +1,8 @@
 -- The place of a fault: how far some query agrees with a text, piece by piece.
 use Rattle.std.specs.Prelude.{◌≡◌, ℕ, List, [], ◌++◌, length}
-use Rattle.query_grammar.specs.Tree.{Tree}
-use Rattle.query_grammar.specs.Pieces.{Piece, pieces, joined}
-use Rattle.query_grammar.specs.Grammar.{QueryText}
+use Rattle.query_tree.specs.Tree.{Tree}
+use Rattle.query_tree.specs.Pieces.{Piece, pieces, joined}
+use Rattle.query_tree.specs.Grammar.{QueryText}
 
 -- the pieces of some query begin with these
 abbrev pub CanBegin : ℕ → List Piece → Type 0

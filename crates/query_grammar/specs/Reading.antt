@@ -4,18 +4,18 @@ use Rattle.std.specs.List.{before_first, after_first}
 use Rattle.deb_version.specs.VersionText.{is_version}
 use Rattle.deb_version.specs.declared.order.Relation.{Relation}
 use Rattle.deb_version.specs.declared.order.Relation.TheVariants as relation
-use Rattle.query_grammar.specs.declared.query.Test.{Test}
-use Rattle.query_grammar.specs.declared.query.Test.TheVariants as test
+use Rattle.query_tree.specs.declared.query.Test.{Test}
+use Rattle.query_tree.specs.declared.query.Test.TheVariants as test
 use Rattle.query_grammar.specs.declared.term.Begun.{Begun}
 use Rattle.query_grammar.specs.declared.term.Begun.TheVariants.{Package, PackageOpened, Compared, Versioned, Related, Braced, Bound, Field, FieldOpened, Tested, Valued}
 use Rattle.query_grammar.specs.declared.level.Next.{Next}
 use Rattle.query_grammar.specs.declared.level.Next.TheVariants.{Wanting, Having, Within}
 use Rattle.query_grammar.specs.declared.fault.QueryKind.{QueryKind}
 use Rattle.query_grammar.specs.declared.fault.QueryKind.TheVariants.{TooDeep, WantTerm, BadOperator, BadVersion, WantClose, WantValue, Trailing}
-use Rattle.query_grammar.specs.Tree.{Tree, reference, wanted, field, negated}
-use Rattle.query_grammar.specs.Pieces.{Piece, Token, token, gap, word, operator, lone, quoted, broken, mark, pieces}
-use Rattle.query_grammar.specs.Words.{is_package, is_plain_version, is_arch, is_field, is_underscore, relation_of, may_test}
-use Rattle.query_grammar.specs.Grammar.{all_of, any_of}
+use Rattle.query_tree.specs.Tree.{Tree, reference, wanted, field, negated}
+use Rattle.query_tree.specs.Pieces.{Piece, Token, token, gap, word, operator, lone, quoted, broken, mark, pieces}
+use Rattle.query_tree.specs.Words.{is_package, is_plain_version, is_arch, is_field, is_underscore, relation_of, may_test}
+use Rattle.query_tree.specs.Grammar.{all_of, any_of}
 
 -- what a piece makes of a term: it goes on, it is whole with the piece, it was whole before, or the piece is wrong
 pub data Progress : Type 0 where

@@ -2,12 +2,12 @@
 use Rattle.std.specs.Prelude.{◌≡◌, ℕ, List, map, reverse, Result, Ok, Err}
 use Rattle.query_grammar.specs.declared.term.Progress.{Progress}
 use Rattle.query_grammar.specs.declared.term.Progress.TheVariants.{GoesOn, Whole, Ended, Wrong}
-use Rattle.query_grammar.specs.declared.query.Query.{Query}
+use Rattle.query_tree.specs.declared.query.Query.{Query}
 use Rattle.query_grammar.specs.declared.fault.QueryFault.{QueryFault}
 use Rattle.query_grammar.specs.declared.fault.QueryFault.TheVariants.{At, OutOfMemory}
 use Rattle.query_grammar.specs.declared.level.Level.{Level}
 use Rattle.query_grammar.specs.declared.reader.Reader.{Reader}
-use Rattle.query_grammar.specs.Tree.{plain, plains}
+use Rattle.query_tree.specs.Tree.{plain, plains}
 use Rattle.query_grammar.specs.Reading as reading
 
 abbrev pub progress_view : Progress → reading.Progress

@@ -2,18 +2,17 @@
 
 ghost use Rattle.std.specs.Prelude.{◌≡◌, length, IfOk, MatchOption};
 ghost use Rattle.std.specs.List.{before_first, after_first, position_or_len};
-ghost use Rattle.query_grammar.specs.Words.{is_underscore};
+ghost use Rattle.query_tree.specs.Words.{is_underscore};
 ghost use Rattle.query_grammar.specs.Reading.{as_reference, reference_in, begun};
-ghost use Rattle.query_grammar.specs.Tree.{plain, reference as reference_tree};
+ghost use Rattle.query_tree.specs.Tree.{plain, reference as reference_tree};
 ghost use Rattle.query_grammar.specs.Views.{progress_view};
 
 use crate::fault::QueryKind;
-use crate::query::Query;
 use crate::term::{Begun, Progress};
-use crate::words;
 use ap_text::Name;
 use control_stanza::Text;
 use deb_version::Version;
+use query_tree::{Query, arch_of, is_arch, is_field, is_package, package_of, version_of};
 use std::alloc::{AllocError, Global};
 
 /// What stands before the first `_`, and what follows it.
@@ -45,17 +44,17 @@ fn reference_by_parts(
 ) -> Result<Progress, AllocError>
     ensures { IfOk result (λ p. progress_view p ≡ reference_in name.now version.now arch.now) }
 {
-    if !words::is_package(name) {
+    if !is_package(name) {
         return Ok(Progress::Wrong(QueryKind::WantTerm));
     }
-    let Some(version) = words::version_of(alloc, version)? else {
+    let Some(version) = version_of(alloc, version)? else {
         return Ok(Progress::Wrong(QueryKind::WantTerm));
     };
-    if !words::is_arch(arch) {
+    if !is_arch(arch) {
         return Ok(Progress::Wrong(QueryKind::WantTerm));
     }
-    let name = words::package_of(alloc, name)?;
-    let arch = words::arch_of(alloc, arch)?;
+    let name = package_of(alloc, name)?;
+    let arch = arch_of(alloc, arch)?;
     Ok(Progress::Whole(reference_of(name, version, arch)))
 }
 
@@ -78,11 +77,11 @@ fn reference(alloc: Global, word: &str) -> Result<Progress, AllocError>
 pub(crate) fn begin(alloc: Global, word: &str) -> Result<Progress, AllocError>
     ensures { IfOk result (λ p. progress_view p ≡ begun word.now) }
 {
-    if words::is_package(word) {
-        let name = words::package_of(alloc, word)?;
+    if is_package(word) {
+        let name = package_of(alloc, word)?;
         return Ok(Progress::GoesOn(Begun::Package(name)));
     }
-    if words::is_field(word) {
+    if is_field(word) {
         let field = Text::new(alloc, word)?;
         return Ok(Progress::GoesOn(Begun::Field(field)));
     }

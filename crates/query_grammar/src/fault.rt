@@ -1,5 +1,7 @@
 //! Why a text is no query.
 
+ghost use Rattle.std.specs.Prelude.{◌≡◌};
+
 use std::alloc::{AllocError, AllocFailed};
 
 /// What is wrong at a fault's place: the first of these that fits there.
@@ -24,6 +26,15 @@ pub enum QueryKind {
     TooLong,
 }
 
+impl QueryKind {
+    /// The same kind.
+    pub fn copy(&self) -> QueryKind
+        ensures { result ≡ self.now }
+    {
+        *self
+    }
+}
+
 /// Why a text isn't read as a query.
 #[derive(Clone, Copy, Debug, PartialEq, Eq)]
 pub enum QueryFault {
@@ -32,6 +43,15 @@ pub enum QueryFault {
     At { place: u64, kind: QueryKind },
     /// There was no memory to keep the query.
     OutOfMemory,
+}
+
+impl QueryFault {
+    /// The same fault.
+    pub fn copy(&self) -> QueryFault
+        ensures { result ≡ self.now }
+    {
+        *self
+    }
 }
 
 impl From<AllocError> for QueryFault {

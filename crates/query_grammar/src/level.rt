@@ -1,12 +1,12 @@
 //! What stands of a query while it is read.
 
 ghost use Rattle.std.specs.Prelude.{◌≡◌, ◌+◌, ◌<◌, ◌≤◌, [], ◌∷◌, IfOk, vec_len};
-ghost use Rattle.query_grammar.specs.Tree.{plain, plains, listed, negated, any, all};
-ghost use Rattle.query_grammar.specs.Grammar.{all_of as all_tree, any_of as any_tree};
+ghost use Rattle.query_tree.specs.Tree.{plain, plains, listed, negated, any, all};
+ghost use Rattle.query_tree.specs.Grammar.{all_of as all_tree, any_of as any_tree};
 ghost use Rattle.query_grammar.specs.Reading.{negate as negate_tree};
 
-use crate::query::Query;
 use crate::term::Begun;
+use query_tree::Query;
 use std::alloc::{AllocError, Global};
 
 /// What is read next.

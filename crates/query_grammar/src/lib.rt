@@ -1,23 +1,16 @@
-//! Package queries: their trees, how they are read, and how they are written.
+//! Package queries: how they are read. Their trees, and how these are written, are those of `query_tree`.
 #![tactic(auto)]
 
 mod begin;
-mod copy;
 mod fault;
 mod laws;
 mod level;
-mod piece;
-mod query;
 mod read;
 mod reader;
 mod term;
 mod value;
-mod words;
-mod write;
-mod write_tree;
 
 pub use fault::{QueryFault, QueryKind};
-pub use laws::written_query_is_read_back;
-pub use query::{Query, Test};
+pub use laws::{queries_have_one_tree, queries_say_their_trees};
+pub use query_tree::{Query, Test, write_query, written_query_is_one_line, written_query_is_read_back};
 pub use read::{read_filter, read_query};
-pub use write_tree::write_query;

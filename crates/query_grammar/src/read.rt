@@ -2,17 +2,17 @@
 
 ghost use Rattle.std.specs.Prelude.{◌≡◌, ◌+◌, ◌<◌, ◌≤◌, length, take, drop, IfOk, IfErr};
 ghost use Rattle.std.specs.Str.{IsUtf8};
-ghost use Rattle.query_grammar.specs.Pieces.{cut_of, quoted_value, IfQuoted};
-ghost use Rattle.query_grammar.specs.Tree.{Tree, plain};
-ghost use Rattle.query_grammar.specs.Grammar.{QueryText};
+ghost use Rattle.query_tree.specs.Pieces.{cut_of, quoted_value, IfQuoted};
+ghost use Rattle.query_tree.specs.Tree.{Tree, plain};
+ghost use Rattle.query_tree.specs.Grammar.{QueryText};
 ghost use Rattle.query_grammar.specs.Answers.{IsTree, IsFilterFault, IsQueryFault};
 ghost use Rattle.query_grammar.specs.Reading.{reading};
+ghost use Rattle.query_grammar.specs.Said.{filter_of, query_of, Says};
 ghost use Rattle.query_grammar.specs.Views.{Reads};
 
 use crate::fault::{QueryFault, QueryKind};
-use crate::piece::{self, Cut, Place, Shape};
-use crate::query::Query;
 use crate::reader::Reader;
+use query_tree::{Cut, Place, Query, Shape, first_cut, next_place};
 use std::alloc::Global;
 
 /// The first piece of a text that isn't empty.
@@ -22,7 +22,7 @@ fn cut_at(place: Place, text: &str) -> Cut
 {
     match text.as_bytes() {
         [] => unreachable!(),
-        [first, behind @ ..] => piece::first_cut(place, *first, behind),
+        [first, behind @ ..] => first_cut(place, *first, behind),
     }
 }
 
@@ -52,7 +52,7 @@ fn read_pieces(alloc: Global, text: &str) -> Result<Query, QueryFault>
         let (shape, piece, behind) = split_piece(place, rest);
         reader = reader.step(alloc, at, shape, piece)?;
         at += piece.len() as u64;
-        place = piece::next_place(place, shape);
+        place = next_place(place, shape);
         rest = behind;
     }
     reader.finish(alloc, at)
@@ -69,6 +69,8 @@ pub fn read_filter(alloc: Global, text: &str) -> Result<Query, QueryFault>
     ensures only { (t : Tree) → QueryText 64 text.now t → IsTree t result }
     // Which fault it is.
     ensures fault { IfErr result (IsFilterFault text.now) }
+    // The same, as a function of the text.
+    ensures value { Says (filter_of text.now) result }
 {
     read_pieces(alloc, text)
 }
@@ -84,6 +86,8 @@ pub fn read_query(alloc: Global, text: &str) -> Result<Query, QueryFault>
     ensures only { (t : Tree) → QueryText 64 text.now t → length text.now ≤ 4096 → IsTree t result }
     // Which fault it is.
     ensures fault { IfErr result (IsQueryFault text.now) }
+    // The same, as a function of the text.
+    ensures value { Says (query_of text.now) result }
 {
     if text.len() > 4096 {
         return Err(QueryFault::At {

@@ -2,17 +2,16 @@
 
 ghost use Rattle.std.specs.Prelude.{◌≡◌, ◌∷◌, ◌+◌, length};
 ghost use Rattle.std.specs.Str.{IsUtf8};
-ghost use Rattle.query_grammar.specs.Tree.{plain};
-ghost use Rattle.query_grammar.specs.Pieces.{token, quoted_value, IfQuoted};
+ghost use Rattle.query_tree.specs.Tree.{plain};
+ghost use Rattle.query_tree.specs.Pieces.{token, quoted_value, IfQuoted};
 ghost use Rattle.query_grammar.specs.Reading.{start, step as step_by, step_next as next_step, step_having as having_step, step_wanting as wanting_step, step_progress as progress_step, after_whole as whole_kind, closed_group, begin_negation as negation_step, begin_group as group_step, with_member, goes, having_one as having_tree, finish as finish_by, finish_having as having_finish, finish_progress as progress_finish};
 ghost use Rattle.query_grammar.specs.Views.{progress_view, level_view, outer_view, reader_view, Gives, Reads};
 
 use crate::begin;
 use crate::fault::{QueryFault, QueryKind};
 use crate::level::{Level, Next};
-use crate::piece::Shape;
-use crate::query::Query;
 use crate::term::{self, Progress};
+use query_tree::{Query, Shape};
 use std::alloc::Global;
 
 /// What stands of a query that is read.

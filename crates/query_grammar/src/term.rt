@@ -2,19 +2,18 @@
 
 ghost use Rattle.std.specs.Prelude.{◌≡◌, ◌≢◌, IsTrue, IfOk, MatchOption};
 ghost use Rattle.std.specs.Str.{IsUtf8};
-ghost use Rattle.query_grammar.specs.Pieces.{token, quoted_value, IfQuoted};
-ghost use Rattle.query_grammar.specs.Words.{relation_of as asked_by};
+ghost use Rattle.query_tree.specs.Pieces.{token, quoted_value, IfQuoted};
+ghost use Rattle.query_tree.specs.Words.{relation_of as asked_by};
 ghost use Rattle.query_grammar.specs.Reading.{begun as begun_by, version_at as version_read, relation_at as relation_read, valued as valued_as, value_at as value_read, test_at as test_read, arch_at as arch_read, braces_or, package_at as package_read, field_at as field_read, closed_by, goes_on, whole, progress as progress_of, at_end as ended_by};
-ghost use Rattle.query_grammar.specs.Tree.{plain, wanted as wanted_tree, field as field_tree};
+ghost use Rattle.query_tree.specs.Tree.{plain, wanted as wanted_tree, field as field_tree};
 ghost use Rattle.query_grammar.specs.Views.{progress_view};
 
 use crate::fault::QueryKind;
-use crate::piece::Shape;
-use crate::query::{Query, Test};
-use crate::{value, words};
+use crate::value;
 use ap_text::Name;
 use control_stanza::Text;
 use deb_version::{Relation, Version};
+use query_tree::{Query, Shape, Test, arch_of, is_arch, may_test, version_of};
 use std::alloc::{AllocError, Global};
 
 /// A term that has begun and may go on, by what stands of it so far.
@@ -98,7 +97,7 @@ fn version_at(
     ensures { IfOk result (λ p. progress_view p ≡ version_read name relation (token shape text.now)) }
 {
     match shape {
-        Shape::Word => match words::version_of(alloc, text)? {
+        Shape::Word => match version_of(alloc, text)? {
             Some(version) => Ok(Progress::GoesOn(Begun::Versioned(name, relation, version))),
             None => Ok(Progress::Wrong(QueryKind::BadVersion)),
         },
@@ -125,7 +124,7 @@ fn relation_at(alloc: Global, name: Name, shape: Shape, text: &str) -> Result<Pr
 fn valued(alloc: Global, field: Text, test: Test, value: Text) -> Result<Progress, AllocError>
     ensures { IfOk result (λ p. progress_view p ≡ valued_as field test value) }
 {
-    if !words::may_test(alloc, field.as_str(), test, value.as_str())? {
+    if !may_test(alloc, field.as_str(), test, value.as_str())? {
         return Ok(Progress::Wrong(QueryKind::BadVersion));
     }
     Ok(Progress::GoesOn(Begun::Valued(field, test, value)))
@@ -174,10 +173,10 @@ fn arch_at(
 {
     match shape {
         Shape::Word => {
-            if !words::is_arch(text) {
+            if !is_arch(text) {
                 return Ok(Progress::Wrong(QueryKind::WantValue));
             }
-            let arch = words::arch_of(alloc, text)?;
+            let arch = arch_of(alloc, text)?;
             Ok(Progress::GoesOn(Begun::Bound(name, relation, arch)))
         }
         _ => Ok(Progress::Wrong(QueryKind::WantValue)),

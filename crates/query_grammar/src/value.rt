@@ -2,7 +2,7 @@
 
 ghost use Rattle.std.specs.Prelude.{◌≡◌, ◌-◌, false, length, take, IfOk};
 ghost use Rattle.std.specs.Str.{IsUtf8};
-ghost use Rattle.query_grammar.specs.Pieces.{unquoted as meant, quoted_value};
+ghost use Rattle.query_tree.specs.Pieces.{unquoted as meant, quoted_value};
 
 use control_stanza::Text;
 use std::alloc::{AllocError, Global};

@@ -1,5 +1,5 @@
 use Rattle.std.proofs.Common.{subst}
-use Rattle.query_grammar.specs.Tree.{plain}
+use Rattle.query_tree.specs.Tree.{plain}
 use Rattle.query_eval.specs.Conditions.{IsRefused, patterns_of}
 use Rattle.query_eval.specs.declared.fault.EvalFault.{EvalFault}
 use Rattle.machine_step.proofs.QueryLemmas.{too_large}

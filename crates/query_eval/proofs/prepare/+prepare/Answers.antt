@@ -1,6 +1,6 @@
 use Rattle.std.proofs.Common.{◌+◌, map, drop, ap}
 use Rattle.std.proofs.lemmas.Result.{err_from_is_err_and}
-use Rattle.query_grammar.specs.Tree.{plain, plains, listed}
+use Rattle.query_tree.specs.Tree.{plain, plains, listed}
 use Rattle.query_eval.specs.Conditions.{patterns_of, patterns_in}
 use Rattle.query_eval.specs.Preparing.{node_tree}
 use Rattle.query_eval.proofs.Preparing.{done_none, done_more, done_refused, patterns_next, nodes_next}

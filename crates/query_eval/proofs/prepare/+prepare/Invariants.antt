@@ -1,5 +1,5 @@
 use Rattle.std.proofs.Common.{◌≡◌, map, take, drop}
-use Rattle.query_grammar.specs.Tree.{plains, listed}
+use Rattle.query_tree.specs.Tree.{plains, listed}
 use Rattle.query_eval.specs.Conditions.{patterns_in}
 use Rattle.query_eval.specs.Preparing.{node_tree}
 use Rattle.query_eval.proofs.Preparing.{Done}

@@ -1,5 +1,5 @@
 use Rattle.std.proofs.Common.{◌≡◌, map, drop}
-use Rattle.query_grammar.specs.Tree.{listed}
+use Rattle.query_tree.specs.Tree.{listed}
 use Rattle.query_eval.specs.Preparing.{node_tree}
 use Rattle.query_eval.specs.Truth.{some_matches, each_matches}
 use Rattle.query_eval.proofs.truth.+matches.Given as goal

@@ -1,7 +1,7 @@
 use Rattle.std.proofs.Common.{ap, sym, ◌∙◌}
-use Rattle.query_grammar.specs.Tree.{Tree, plain, node_tree}
-use Rattle.query_grammar.specs.declared.query.Query.TheVariants.{rolls-Any}
-use Rattle.query_grammar.specs.declared.query.Query.TheFolds.{fold-roll-Query}
+use Rattle.query_tree.specs.Tree.{Tree, plain, node_tree}
+use Rattle.query_tree.specs.declared.query.Query.TheVariants.{rolls-Any}
+use Rattle.query_tree.specs.declared.query.Query.TheFolds.{fold-roll-Query}
 use Rattle.query_grammar.proofs.level.any_together.Goals as goal
 
 pub returns : goal.returns

@@ -1,5 +1,5 @@
 use Rattle.std.proofs.Common.{◌≡◌}
-use Rattle.query_grammar.specs.Tree.{plain}
+use Rattle.query_tree.specs.Tree.{plain}
 use Rattle.query_grammar.specs.Reading.{negate}
 use Rattle.query_grammar.proofs.level.negate.Given as goal
 

@@ -1,12 +1,13 @@
-use Rattle.std.proofs.Common.{◌≡◌, ℕ, List, Result, Ok, Err, IfOk, IfErr, sym, ◌∙◌}
-use Rattle.query_grammar.specs.declared.query.Query.{Query}
+use Rattle.std.proofs.Common.{◌≡◌, ℕ, List, Result, Ok, Err, IfOk, IfErr, sym, ap, ◌∙◌}
+use Rattle.query_tree.specs.declared.query.Query.{Query}
 use Rattle.query_grammar.specs.declared.fault.QueryFault.{QueryFault}
 use Rattle.query_grammar.specs.declared.fault.QueryFault.TheVariants.{At, OutOfMemory}
-use Rattle.query_grammar.specs.Tree.{Tree, plain}
-use Rattle.query_grammar.specs.Grammar.{QueryText}
+use Rattle.query_tree.specs.Tree.{Tree, plain}
+use Rattle.query_tree.specs.Grammar.{QueryText}
 use Rattle.query_grammar.specs.Reading.{tree, fault, reading}
 use Rattle.query_grammar.specs.Views.{Reads}
 use Rattle.query_grammar.specs.Answers.{IsTree, IsFilterFault}
+use Rattle.query_grammar.specs.Said.{tree_or_place, filter_of, Says}
 use Rattle.query_grammar.proofs.PlaceOf.{reading_place}
 use Rattle.query_grammar.proofs.Kind.{reading_kind}
 use Rattle.query_grammar.proofs.Agreement.{reading_found, reading_only}
@@ -26,6 +27,12 @@ which text (Ok query) h = tt
 which text (Err (At place kind)) h = (reading_place text place kind h, reading_kind text place kind h, h)
 which text (Err OutOfMemory) h = tt
 
+says : (text : List ℕ) (r : Result Query QueryFault) → Reads r (reading text) → Says (filter_of text) r
+unfolding filter_of
+says text (Ok query) h = ap tree_or_place h
+says text (Err (At place kind)) h = ap tree_or_place h
+says text (Err OutOfMemory) h = tt
+
 pub returns-clause-found : goal.returns-clause-found
 returns-clause-found c = found _ _ c.read_pieces.ensures
 
@@ -34,3 +41,6 @@ returns-clause-only c = λ t q. only _ _ t c.read_pieces.ensures q
 
 pub returns-clause-fault : goal.returns-clause-fault
 returns-clause-fault c = which _ _ c.read_pieces.ensures
+
+pub returns-clause-value : goal.returns-clause-value
+returns-clause-value c = says _ _ c.read_pieces.ensures

@@ -1,6 +1,6 @@
 use Rattle.std.proofs.Common.{rules, ◌+◌, ◌<◌, length, sym, ap, ◌∙◌, arith}
-use Rattle.query_grammar.specs.Pieces.{pieces_from}
-use Rattle.query_grammar.specs.declared.piece.Place.TheVariants.{Outside}
+use Rattle.query_tree.specs.Pieces.{pieces_from}
+use Rattle.query_tree.specs.declared.piece.Place.TheVariants.{Outside}
 use Rattle.query_grammar.specs.Reading.{run}
 use Rattle.query_grammar.specs.Views.{reader_view}
 use Rattle.query_grammar.proofs.Turns.{run_goes, reading_begins}

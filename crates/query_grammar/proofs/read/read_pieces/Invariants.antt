@@ -1,7 +1,7 @@
 use Rattle.std.proofs.Common.{◌≡◌, ◌+◌, length}
 use denote.Shadow.{shadow}
 use denote.Text.{Utf8}
-use Rattle.query_grammar.specs.Pieces.{pieces_from}
+use Rattle.query_tree.specs.Pieces.{pieces_from}
 use Rattle.query_grammar.specs.Reading.{run, reading}
 use Rattle.query_grammar.specs.Views.{reader_view}
 use Rattle.query_grammar.proofs.read.read_pieces.Given as goal

@@ -1,8 +1,8 @@
 use Rattle.std.proofs.Common.{◌≡◌, ◌<◌, take, subst, sym, arith}
 use Rattle.std.proofs.lemmas.Grind.{common_steps}
 use Rattle.std.specs.Str.{IsUtf8, IsCharBoundary}
-use Rattle.query_grammar.specs.Pieces.{quoted_value, IfQuoted}
-use Rattle.query_grammar.proofs.Cuts.{cut_boundary, cut_positive, cut_quoted}
+use Rattle.query_tree.specs.Pieces.{quoted_value, IfQuoted}
+use Rattle.query_tree.proofs.Cuts.{cut_boundary, cut_positive, cut_quoted}
 use Rattle.query_grammar.proofs.read.split_piece.Goals as goal
 
 pub range-requires-clause-end_boundary : goal.range-requires-clause-end_boundary

@@ -1,5 +1,5 @@
 use Rattle.std.proofs.Common.{◌≡◌, ◌++◌, drop, false}
-use Rattle.query_grammar.specs.Pieces.{unquoted}
+use Rattle.query_tree.specs.Pieces.{unquoted}
 use Rattle.query_grammar.proofs.value.unquoted.Given as goal
 
 abbrev pub invariant-loop-c : goal.invariant-loop-c

@@ -1,5 +1,0 @@
-use Rattle.query_grammar.proofs.Round.{written_again}
-use Rattle.query_grammar.proofs.laws.written_query_is_read_back.Goals as goal
-
-pub returns : goal.returns
-returns c = written_again

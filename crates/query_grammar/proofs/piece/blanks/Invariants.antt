@@ -1,7 +1,0 @@
-use Rattle.std.proofs.Common.{◌≡◌, ◌+◌, drop}
-use Rattle.std.specs.List.{prefix_len}
-use Rattle.query_grammar.specs.Pieces.{is_blank}
-use Rattle.query_grammar.proofs.piece.blanks.Given as goal
-
-abbrev pub invariant-loop-c : goal.invariant-loop-c
-invariant-loop-c l = (l.n ≡ l.c-index) × (l.n + prefix_len is_blank (drop l.n l.text) ≡ prefix_len is_blank l.text)

@@ -1,6 +1,0 @@
-use Rattle.std.proofs.Common.{◌≡◌, ◌++◌, drop}
-use Rattle.query_grammar.specs.Written.{escaped}
-use Rattle.query_grammar.proofs.write.put_escaped.Given as goal
-
-abbrev pub invariant-loop-c : goal.invariant-loop-c
-invariant-loop-c l = l.out.items ++ escaped (drop l.c-index l.value) ≡ l.initial.out.items ++ escaped l.value

@@ -1,0 +1,11 @@
+pub mod WordFacts
+pub mod QuotedText
+pub mod PieceText
+pub mod Cuts
+pub mod Lexing
+pub mod Fronts
+pub mod Shown
+pub mod Lexed
+pub mod Again
+pub mod Round
+pub mod Kept
