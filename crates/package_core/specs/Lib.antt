@@ -6,3 +6,4 @@ pub mod Card
 pub mod Order
 pub mod Left
 pub mod Whole
+pub mod Architecture

@@ -1,6 +1,7 @@
 //! Packages: what a binary stanza says of one, its identity, its order and its text.
 #![tactic(auto)]
 
+mod architecture;
 mod bytes;
 mod fault;
 mod laws;
