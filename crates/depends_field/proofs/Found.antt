@@ -6,14 +6,14 @@ use Rattle.std.proofs.lemmas.Option.{same_Some}
 use Rattle.std.proofs.lemmas.Slice.Eq.{bytes_eq-Decides}
 use Rattle.std.proofs.lemmas.Bool.{false≢true, and_from}
 use Rattle.std.proofs.lemmas.List.Folds.{list_all-append}
-use Rattle.ap_text.specs.Names.{is_package_name}
+use Rattle.ap_text.specs.Names.{is_package_name, is_architecture}
 use Rattle.deb_version.specs.declared.order.Relation.{Relation}
 use Rattle.depends_field.specs.declared.alternative.Alternative.{Alternative}
 use Rattle.depends_field.specs.declared.phase.Kind.{Kind}
 use Rattle.depends_field.specs.declared.phase.Phase.{Phase}
 use Rattle.depends_field.specs.declared.phase.Phase.TheVariants.{Start, Barred, Named, Colon, Parted, Opened, Compared, Versioned, Closed}
 use Rattle.depends_field.specs.Pieces.{is_blank}
-use Rattle.depends_field.specs.Reading.{is_piece, is_no_qualifier, is_architecture, relation_of, is_allowed, is_version_word, plain, with_arch, with_relation, rested, named, qualified, compared, compared_by, versioned, advanced, ended}
+use Rattle.depends_field.specs.Reading.{is_piece, is_no_qualifier, relation_of, is_allowed, is_version_word, plain, with_arch, with_relation, rested, named, qualified, compared, compared_by, versioned, advanced, ended}
 use Rattle.depends_field.specs.Groups.{AllBlank, QualifierText, Restricts, RestrictionText, AlternativeText}
 
 -- what completes an alternative behind each phase

@@ -6,7 +6,7 @@ use Rattle.std.proofs.lemmas.Option.{same_Some}
 use Rattle.std.proofs.lemmas.List.{take-append-drop, get_or-take}
 use Rattle.std.proofs.lemmas.Bool.{false≢true, cases_Bool, and_from, cond-true, cond-false}
 use Rattle.std.proofs.lemmas.List.Folds.{list_all-append}
-use Rattle.ap_text.specs.Names.{is_package_name}
+use Rattle.ap_text.specs.Names.{is_package_name, is_architecture}
 use Rattle.deb_version.specs.declared.order.Relation.{Relation}
 use Rattle.depends_field.specs.declared.alternative.Alternative.{Alternative}
 use Rattle.depends_field.specs.declared.phase.Kind.{Kind}
@@ -14,7 +14,7 @@ use Rattle.depends_field.specs.declared.phase.Kind.TheVariants.{Depends, Provide
 use Rattle.depends_field.specs.declared.phase.Phase.{Phase}
 use Rattle.depends_field.specs.declared.phase.Phase.TheVariants.{Start, Barred, Named, Colon, Parted, Opened, Compared, Versioned, Closed}
 use Rattle.depends_field.specs.Pieces.{is_blank, piece_len, IsCut, front, behind, inside_after}
-use Rattle.depends_field.specs.Reading.{Read, start, is_piece, is_blanks, is_no_qualifier, is_architecture, is_version_word, is_allowed, relation_of, plain, with_arch, with_relation, rested, named, qualified, compared, compared_by, versioned, advanced, ended, is_start, grouped, parted, alternated, barred, with_phase, phased, stepped, run, groups_read, finished}
+use Rattle.depends_field.specs.Reading.{Read, start, is_piece, is_blanks, is_no_qualifier, is_version_word, is_allowed, relation_of, plain, with_arch, with_relation, rested, named, qualified, compared, compared_by, versioned, advanced, ended, is_start, grouped, parted, alternated, barred, with_phase, phased, stepped, run, groups_read, finished}
 use Rattle.depends_field.specs.Groups.{AllBlank, parted_by, AlternativeText, GroupText, PartsText, Groups}
 use Rattle.depends_field.specs.Faults.{IsReading}
 use Rattle.depends_field.proofs.Cuts.{piece_len_in}

@@ -2,7 +2,7 @@
 use Rattle.std.proofs.Common.{◌≡◌, ◌≢◌, ℕ, true, false, List, [], ◌∷◌, ◌++◌, get_or, Option, Some, None, refl, ap, ◌∙◌, arith, inl, inr, append_assoc, codes}
 use Rattle.std.proofs.lemmas.Bool.{and_parts, cond-true, cond-false, false_from_ne_true}
 use Rattle.std.proofs.lemmas.Bool.Decides.{nat_tests}
-use Rattle.ap_text.specs.Names.{is_name_byte, is_name}
+use Rattle.ap_text.specs.Names.{is_name_byte, is_name, is_architecture}
 use Rattle.deb_version.specs.declared.order.Relation.{Relation}
 use Rattle.depends_field.specs.declared.alternative.Alternative.{Alternative}
 use Rattle.depends_field.specs.declared.phase.Kind.{Kind}
@@ -10,7 +10,7 @@ use Rattle.depends_field.specs.declared.phase.Kind.TheVariants.{Depends, Provide
 use Rattle.depends_field.specs.declared.phase.Phase.{Phase}
 use Rattle.depends_field.specs.declared.phase.Phase.TheVariants.{Named, Colon, Parted, Opened, Compared, Versioned, Closed}
 use Rattle.depends_field.specs.Pieces.{is_blank, is_version_byte}
-use Rattle.depends_field.specs.Reading.{Read, is_no_qualifier, is_architecture, plain, with_arch, with_relation, rested, qualified, advanced, ended, is_start, with_phase}
+use Rattle.depends_field.specs.Reading.{Read, is_no_qualifier, plain, with_arch, with_relation, rested, qualified, advanced, ended, is_start, with_phase}
 use Rattle.depends_field.specs.Groups.{AllBlank, QualifierText, Restricts}
 use Rattle.depends_field.proofs.Found.{same_bytes}
 use Rattle.depends_field.proofs.Walks.{Walk, walk_on, no_walk, walk_as, some_blanks, walk_blanks, behind_blanks, walk_name, walk_colon, walk_opening, walk_closing}
@@ -60,7 +60,6 @@ base_blanks kind s phase base (b ∷ w) rest is all stop = record {
 -- the qualifier
 
 pub architecture_name : (w : List ℕ) → is_architecture w ≡ true → is_name w ≡ true
-unfolding is_architecture
 architecture_name w h = (and_parts (is_name w) _ h).0
 
 any_name : is_name (codes "any") ≡ true

@@ -3,7 +3,7 @@ use Rattle.std.proofs.Common.{◌≡◌, ℕ, suc, ◌<◌, Bool, true, false, c
 use Rattle.std.specs.List.{list_all}
 use Rattle.std.proofs.lemmas.Option.{same_Some}
 use Rattle.std.proofs.lemmas.Bool.{false≢true, cases_Bool}
-use Rattle.ap_text.specs.Names.{is_package_name}
+use Rattle.ap_text.specs.Names.{is_package_name, is_architecture}
 use Rattle.deb_version.specs.declared.order.Relation.{Relation}
 use Rattle.deb_version.specs.declared.order.Relation.TheVariants.{Equal}
 use Rattle.deb_version.specs.VersionText.{is_version, fault_of, epoch_of, start_of, upstream_in, revision_in, is_epoch, bad_in_upstream, bad_in_revision, is_revision_byte, is_upstream_byte}
@@ -14,7 +14,7 @@ use Rattle.depends_field.specs.declared.phase.Kind.TheVariants.{Depends, Provide
 use Rattle.depends_field.specs.declared.phase.Phase.{Phase}
 use Rattle.depends_field.specs.declared.phase.Phase.TheVariants.{Start, Barred, Named, Colon, Parted, Opened, Compared, Versioned, Closed}
 use Rattle.depends_field.specs.Pieces.{is_blank, is_word_byte, piece_len, IsCut, front, behind, inside_after}
-use Rattle.depends_field.specs.Reading.{Read, start, is_piece, is_no_qualifier, is_blanks, is_architecture, is_version_word, is_allowed, relation_of, plain, with_arch, with_relation, rested, named, qualified, compared, compared_by, versioned, advanced, ended, is_start, grouped, parted, alternated, barred, with_phase, phased, stepped, run, finished}
+use Rattle.depends_field.specs.Reading.{Read, start, is_piece, is_no_qualifier, is_blanks, is_version_word, is_allowed, relation_of, plain, with_arch, with_relation, rested, named, qualified, compared, compared_by, versioned, advanced, ended, is_start, grouped, parted, alternated, barred, with_phase, phased, stepped, run, finished}
 use Rattle.depends_field.specs.Groups.{AllBlank}
 use Rattle.depends_field.specs.Faults.{IsFirstUnfit}
 use Rattle.depends_field.specs.Places.{BeginsReadable, IsPlace}

@@ -9,7 +9,7 @@ use Rattle.std.proofs.lemmas.Str.Ascii.{IsAscii-nil, IsAscii-cons}
 use Rattle.deb_version.specs.VersionText.{fault_of, is_version}
 use Rattle.deb_version.specs.declared.text.VersionFault.{VersionFault}
 use Rattle.depends_field.specs.Reading.{is_version_word}
-use Rattle.ap_text.specs.Names.{is_name_byte, is_name, is_package_name}
+use Rattle.ap_text.specs.Names.{is_name_byte, is_name, is_package_name, is_architecture}
 use Rattle.depends_field.specs.Pieces.{is_version_byte}
 
 ascii_from_all : (q : ℕ → Bool) → ((b : ℕ) → q b ≡ true → b < 128) → (bs : List ℕ) → list_all q bs ≡ true → IsAscii bs
@@ -39,6 +39,9 @@ name_from_package_name bs h = (and_parts (is_name bs) _ (and_parts _ (list_all (
 pub no_package_name : (bs : List ℕ) → ¬ IsUtf8 bs → is_package_name bs ≡ false
 no_package_name bs other =
     false_from_ne_true (is_package_name bs) (λ h. other (utf8_from_name bs (name_from_package_name bs h)))
+
+pub no_architecture : (bs : List ℕ) → ¬ IsUtf8 bs → is_architecture bs ≡ false
+no_architecture bs other = false_from_ne_true (is_architecture bs) (λ h. other (utf8_from_name bs (and_parts (is_name bs) _ h).0))
 
 pub version_word_from : (bs : List ℕ) → list_all is_version_byte bs ≡ true → fault_of bs ≡ None → is_version_word bs ≡ true
 unfolding is_version_word is_version

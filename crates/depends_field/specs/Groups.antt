@@ -1,13 +1,13 @@
 -- The grammar of relation fields (Debian Policy 7.1, 7.5), as a relation from a text to what it says.
 use Rattle.std.specs.Prelude.{◌≡◌, ◌⊎◌, ◌++◌, ℕ, List, [], ◌∷◌, Option, Some, None, IsTrue, IsFalse, map}
 use Rattle.std.specs.List.{list_all, flat_map, AllZip}
-use Rattle.ap_text.specs.Names.{is_package_name}
+use Rattle.ap_text.specs.Names.{is_package_name, is_architecture}
 use Rattle.deb_version.specs.declared.order.Relation.{Relation}
 use Rattle.depends_field.specs.declared.alternative.Alternative.{Alternative}
 use Rattle.depends_field.specs.declared.phase.Kind.{Kind}
 use Rattle.depends_field.specs.declared.phase.Kind.TheVariants.{Depends, Provides}
 use Rattle.depends_field.specs.Pieces.{is_blank}
-use Rattle.depends_field.specs.Reading.{is_no_qualifier, is_architecture, relation_of, is_allowed, is_version_word}
+use Rattle.depends_field.specs.Reading.{is_no_qualifier, relation_of, is_allowed, is_version_word}
 
 -- spaces, tabs and line ends alone, or nothing
 abbrev pub AllBlank : List ℕ → Type 0

@@ -1,8 +1,9 @@
 -- How the pieces of a relation field are read from the left (Debian Policy 7.1, 7.5).
-use Rattle.std.specs.Prelude.{ℕ, Bool, true, false, not, ◌&&◌, ◌||◌, List, [], ◌∷◌, ◌++◌, slice_index, bytes_eq, Option, Some, None, if◌then◌else◌}
+use Rattle.std.specs.Prelude.{ℕ, Bool, true, false, ◌&&◌, ◌||◌, List, [], ◌∷◌, ◌++◌, slice_index, bytes_eq, codes, Option, Some, None, if◌then◌else◌}
 use Rattle.std.specs.List.{list_all}
 use Rattle.std.specs.Option.{option_and_then}
-use Rattle.ap_text.specs.Names.{is_name, is_package_name}
+use Rattle.ap_text.specs.Names.{is_architecture, is_package_name}
+use Rattle.deb_version.specs.VersionOrder.{operator}
 use Rattle.deb_version.specs.VersionText.{is_version}
 use Rattle.deb_version.specs.declared.order.Relation.{Relation}
 use Rattle.deb_version.specs.declared.order.Relation.TheVariants.{Earlier, EarlierEqual, Equal, LaterEqual, Later}
@@ -22,25 +23,21 @@ is_blanks piece = is_blank (slice_index piece 0)
 
 -- `any`
 abbrev pub is_any : List ℕ → Bool
-is_any piece = bytes_eq piece (97 ∷ 110 ∷ 121 ∷ [])
+is_any piece = bytes_eq piece (codes "any")
 
 -- a qualifier that is read as none
 abbrev pub is_no_qualifier : Kind → List ℕ → Bool
 is_no_qualifier Depends piece = is_any piece
 is_no_qualifier Provides piece = is_any piece
 
--- a name other than `source`
-unfoldable pub is_architecture : List ℕ → Bool
-is_architecture piece = is_name piece && not (bytes_eq piece (115 ∷ 111 ∷ 117 ∷ 114 ∷ 99 ∷ 101 ∷ []))
-
 -- what an operator asks for; the old `<` and `>` mean `<=` and `>=`
 unfoldable pub relation_of : List ℕ → Option Relation
 relation_of piece =
-    if bytes_eq piece (60 ∷ 60 ∷ []) then Some Earlier
-    else if bytes_eq piece (60 ∷ 61 ∷ []) || bytes_eq piece (60 ∷ []) then Some EarlierEqual
-    else if bytes_eq piece (61 ∷ []) then Some Equal
-    else if bytes_eq piece (62 ∷ 61 ∷ []) || bytes_eq piece (62 ∷ []) then Some LaterEqual
-    else if bytes_eq piece (62 ∷ 62 ∷ []) then Some Later
+    if bytes_eq piece (operator Earlier) then Some Earlier
+    else if bytes_eq piece (operator EarlierEqual) || bytes_eq piece (codes "<") then Some EarlierEqual
+    else if bytes_eq piece (operator Equal) then Some Equal
+    else if bytes_eq piece (operator LaterEqual) || bytes_eq piece (codes ">") then Some LaterEqual
+    else if bytes_eq piece (operator Later) then Some Later
     else None
 
 -- Provides may only say `=`

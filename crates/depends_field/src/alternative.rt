@@ -1,7 +1,7 @@
 ghost use Rattle.std.specs.Prelude.{◌≡◌, IfOk, OnOk, OnErr, ◌++◌, ◌∷◌, []};
 
 use ap_text::Name;
-use deb_version::{Relation, Version};
+use deb_version::{Relation, Version, copy_relation};
 use std::alloc::{AllocError, Global};
 use std::marker::Model;
 
@@ -38,18 +38,6 @@ fn copy_name(alloc: Global, name: &Option<Name>) -> Result<Option<Name>, AllocEr
     match name {
         None => Ok(None),
         Some(name) => Ok(Some(name.copy(alloc)?)),
-    }
-}
-
-fn copy_relation(
-    alloc: Global,
-    relation: &Option<(Relation, Version)>,
-) -> Result<Option<(Relation, Version)>, AllocError>
-    ensures { IfOk result (λ copy. copy ≡ relation.now) }
-{
-    match relation {
-        None => Ok(None),
-        Some((relation, version)) => Ok(Some((*relation, version.copy(alloc)?))),
     }
 }
 

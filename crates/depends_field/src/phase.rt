@@ -1,5 +1,5 @@
 ghost use Rattle.std.specs.Prelude.{◌≡◌, ◌≢◌, IfOk, OnOk, Some, None, if◌then◌else◌};
-ghost use Rattle.ap_text.specs.Names.{is_name as name_text, is_package_name as package_name};
+ghost use Rattle.ap_text.specs.Names.{is_name as name_text, is_package_name as package_name, is_architecture as architecture};
 ghost use Rattle.depends_field.specs.Reading.{is_no_qualifier as no_qualifier, is_version_word as version_word, relation_of as relation_of_piece, is_allowed as allowed, plain as plain_alternative, rested as rested_phase, named as named_phase, qualified as qualified_phase, compared as compared_phase, versioned as versioned_phase, advanced as advanced_phase, ended as ended_phase};
 
 use crate::alternative::Alternative;
@@ -122,6 +122,15 @@ fn is_package(piece: &[u8]) -> bool
     }
 }
 
+fn is_architecture(piece: &[u8]) -> bool
+    ensures { result ≡ architecture piece.now }
+{
+    match str::from_utf8(piece) {
+        Ok(text) => ap_text::is_architecture(text),
+        Err(_) => false,
+    }
+}
+
 #[tactic(auto, unfolding(crate::specs::Reading::named))]
 fn named(alloc: Global, piece: &[u8]) -> Result<Option<Phase>, AllocError>
     ensures { IfOk result (λ phase. phase ≡ named_phase piece.now) }
@@ -144,7 +153,7 @@ fn is_no_qualifier(kind: Kind, piece: &[u8]) -> bool
     }
 }
 
-#[tactic(auto, unfolding(crate::specs::Reading::qualified, crate::specs::Reading::is_architecture))]
+#[tactic(auto, unfolding(crate::specs::Reading::qualified), using(crate::proofs::Only::architecture_name))]
 fn qualified(
     alloc: Global,
     kind: Kind,
@@ -156,7 +165,7 @@ fn qualified(
     if is_no_qualifier(kind, piece) {
         return Ok(Some(Phase::Parted(plain(name))));
     }
-    if piece == b"source".as_slice() {
+    if !is_architecture(piece) {
         return Ok(None);
     }
     match name_of(alloc, piece)? {

@@ -1,5 +1,6 @@
 -- What is spelled so is read: the reader takes each term, each group and each list of members.
 use Rattle.std.proofs.Common.{◌≡◌, ◌⊎◌, inl, inr, ℕ, suc, zero, ◌+◌, ◌≤◌, cond, List, [], ◌∷◌, ◌++◌, length, Option, Some, None, IsTrue, refl, sym, ap, ◌∙◌, subst, append_assoc, append-nil, add-zero, arith}
+use Rattle.ap_text.specs.Names.{is_architecture}
 use Rattle.deb_version.specs.VersionText.{is_version}
 use Rattle.deb_version.specs.declared.order.Relation.{Relation}
 use Rattle.deb_version.specs.declared.order.Relation.TheVariants as relation
@@ -12,7 +13,7 @@ use Rattle.query_grammar.specs.declared.level.Next.TheVariants.{Wanting, Having,
 use Rattle.query_grammar.specs.declared.fault.QueryKind.TheVariants as QueryKind_is
 use Rattle.query_tree.specs.Tree.{Tree, any, all, negated, reference, wanted, field}
 use Rattle.query_tree.specs.Pieces.{Token, Piece, token, tokens, behind, gap, word, operator, lone, quoted, broken, mark}
-use Rattle.query_tree.specs.Words.{is_arch, relation_of, may_test}
+use Rattle.query_tree.specs.Words.{relation_of, may_test}
 use Rattle.query_tree.specs.Grammar.{One, AllOf, AnyOf, Between, Followed, Term, Related, Bound, Tested, IsValue, any_of}
 use Rattle.query_grammar.specs.Reading.{Progress, goes_on, whole, ended, wrong, progress, compared, value_at, test_at, at_end, begun, Level, State, Step, goes, stops, with_member, with_alternative, whole_level, empty_level, having_one, step_having, step_progress, begin_negation, begin_group, step_wanting, step, Reading, tree, fault, finish_having, finish_progress, finish, start, run, negate}
 use Rattle.query_grammar.proofs.WordFacts.{begun-package, begun-field, begun-reference}
@@ -122,7 +123,7 @@ operator-progress : (name : List ℕ) (how : Test) (asked : Relation) → relati
 unfolding progress
 operator-progress name how asked e = ap (λ o. compared name o) e
 
-pub arch-progress : (name : List ℕ) (asked : Option (Relation × List ℕ)) (arch : List ℕ) → IsTrue (is_arch arch) → progress (so_far.Braced name asked) (word arch) ≡ goes_on (so_far.Bound name asked arch)
+pub arch-progress : (name : List ℕ) (asked : Option (Relation × List ℕ)) (arch : List ℕ) → IsTrue (is_architecture arch) → progress (so_far.Braced name asked) (word arch) ≡ goes_on (so_far.Bound name asked arch)
 unfolding progress
 arch-progress name asked arch a = ap (λ c. cond c (goes_on (so_far.Bound name asked arch)) (wrong QueryKind_is.WantValue)) a
 

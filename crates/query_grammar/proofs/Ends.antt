@@ -2,6 +2,7 @@
 use Rattle.std.proofs.Common.{◌≡◌, ◌⊎◌, inl, inr, ℕ, suc, ◌+◌, Bool, true, cond, List, [], ◌∷◌, ◌++◌, Some, None, refl, sym, ap, ◌∙◌, subst, append-nil, lit<}
 use Rattle.std.specs.List.{prefix_len}
 use Rattle.std.proofs.lemmas.Bool.{or_right}
+use Rattle.ap_text.specs.Names.{is_architecture}
 use Rattle.deb_version.specs.VersionText.{is_version, fault_of, epoch_of, start_of, upstream_in, revision_in, is_epoch, is_revision_byte, is_upstream_byte, bad_in_upstream, bad_in_revision}
 use Rattle.deb_version.specs.Cuts.{is_digit}
 use Rattle.query_tree.specs.declared.piece.Place.{Place}
@@ -18,7 +19,7 @@ use Rattle.query_grammar.specs.declared.level.Next.{Next}
 use Rattle.query_grammar.specs.declared.level.Next.TheVariants.{Wanting, Having, Within}
 use Rattle.query_tree.specs.Tree.{Tree, wanted, field}
 use Rattle.query_tree.specs.Pieces.{Piece, tokens, word, mark, is_blank, is_word, plain_cut, inner_cut, opening_cut, cut_of, pieces, joined}
-use Rattle.query_tree.specs.Words.{is_package, is_arch, may_test}
+use Rattle.query_tree.specs.Words.{is_package, may_test}
 use Rattle.query_tree.specs.Grammar.{One, AnyOf, QueryText}
 use Rattle.query_grammar.specs.Reading.{goes_on, whole, progress, Level, State, with_member, whole_level, finish}
 use Rattle.query_grammar.specs.Places.{CanBegin}
@@ -54,8 +55,7 @@ letter-package : is_package letter ≡ true
 unfolding is_package
 letter-package = refl
 
-letter-arch : is_arch letter ≡ true
-unfolding is_arch
+letter-arch : is_architecture letter ≡ true
 letter-arch = refl
 
 -- a `)` for each group around

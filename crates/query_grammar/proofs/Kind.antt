@@ -3,6 +3,7 @@ use Rattle.std.proofs.Common.{◌≡◌, ◌⊎◌, inl, inr, ℕ, suc, zero, �
 use Rattle.std.specs.List.{prefix_len}
 use Rattle.std.specs.Str.Parse.{digits_value}
 use Rattle.std.proofs.lemmas.Bool.{or_right, true≢false, cases_Bool, cond_both, eq-eqb, eqb-true}
+use Rattle.ap_text.specs.Names.{is_architecture}
 use Rattle.deb_version.specs.VersionText.{is_version, fault_of, epoch_of, start_of, upstream_in, revision_in, is_epoch, is_revision_byte, is_upstream_byte, bad_in_upstream, bad_in_revision}
 use Rattle.deb_version.specs.Cuts.{is_digit}
 use Rattle.deb_version.specs.declared.order.Relation.{Relation}
@@ -22,7 +23,7 @@ use Rattle.query_grammar.specs.declared.fault.QueryKind.{QueryKind}
 use Rattle.query_grammar.specs.declared.fault.QueryKind.TheVariants.{TooDeep, WantTerm, BadOperator, BadVersion, WantClose, WantValue, Trailing, TooLong}
 use Rattle.query_tree.specs.Pieces.{Piece, Token, token, gap, word, operator, lone, quoted, broken, mark, is_blank, is_word, is_quote, closing, quoted_cut, plain_cut, inner_cut, opening_cut, cut_of, next_place, quoted_value, joined}
 use Rattle.query_tree.specs.Tree.{Tree, wanted, field}
-use Rattle.query_tree.specs.Words.{is_package, is_arch, is_field, relation_of, may_test}
+use Rattle.query_tree.specs.Words.{is_package, is_field, relation_of, may_test}
 use Rattle.query_grammar.specs.Reading.{Progress, goes_on, wrong, progress, version_at, compared, relation_at, value_at, test_at, arch_at, closed_by, ended, whole, at_end, step_progress, after_whole, begun, is_reference, begin_negation, begin_group, Level, State, Step, goes, stops, step, step_having, step_wanting, closed_group, having_one, whole_level, with_member, finish, finish_having, finish_progress, fault, Reading, reading}
 use Rattle.query_grammar.specs.Places.{CanBegin}
 use Rattle.query_grammar.specs.Kinds.{run_of, sign_of, TermBegins, ValueBegins, ArchBegins, MayClose, IsLevel, IsOperator, IsWordOrQuoted, IsBroken, operator_shape, value_shape, Fits, NoEarlier, IsFirstKind}
@@ -62,12 +63,10 @@ letter-package : is_package letter ≡ true
 unfolding is_package
 letter-package = refl
 
-letter-arch : is_arch letter ≡ true
-unfolding is_arch
+letter-arch : is_architecture letter ≡ true
 letter-arch = refl
 
-dated-no_arch : is_arch dated ≡ false
-unfolding is_arch
+dated-no_arch : is_architecture dated ≡ false
 dated-no_arch = refl
 
 abbrev at_state : List Level → Level → Next → State
@@ -573,7 +572,7 @@ braced-fails outer l name asked (p ∷ ps) place kind f = go (token p.shape p.by
   where
     go : (t : Token) → step (at_state outer l (Within (so_far.Braced name asked))) t ≡ stops kind → kind ≡ WantValue
     go gap g = cc
-    go (word w) g = cond_both (is_arch w) (goes_on (so_far.Bound name asked w)) (wrong WantValue) (λ q. step_progress outer l (word w) q ≡ stops kind → kind ≡ WantValue) (λ _ h. cc) (λ _ h. cc) g
+    go (word w) g = cond_both (is_architecture w) (goes_on (so_far.Bound name asked w)) (wrong WantValue) (λ q. step_progress outer l (word w) q ≡ stops kind → kind ≡ WantValue) (λ _ h. cc) (λ _ h. cc) g
     go (operator how) g = cc
     go lone g = cc
     go (quoted v) g = cc

@@ -1,6 +1,7 @@
 -- Where the reader stands behind the pieces that it read, and what may follow there.
 use Rattle.std.proofs.Common.{◌≡◌, ℕ, suc, zero, ◌==◌, Bool, true, false, cond, List, [], ◌∷◌, ◌++◌, Option, Some, None, refl, sym, ap, ◌∙◌, subst}
 use Rattle.std.proofs.lemmas.Bool.{eqb-true}
+use Rattle.ap_text.specs.Names.{is_architecture}
 use Rattle.deb_version.specs.declared.order.Relation.{Relation}
 use Rattle.query_tree.specs.declared.piece.Place.{Place}
 use Rattle.query_tree.specs.declared.piece.Place.TheVariants.{Outside, BehindWord, Opening, Inside}
@@ -16,7 +17,7 @@ use Rattle.query_grammar.specs.declared.level.Next.TheVariants.{Wanting, Having,
 use Rattle.query_tree.specs.Tree.{wanted, field}
 use Rattle.query_tree.specs.Pieces.{Piece, token, is_blank, next_place, quoted_value}
 use Rattle.deb_version.specs.VersionText.{is_version}
-use Rattle.query_tree.specs.Words.{is_package, is_field, is_arch, relation_of, may_test}
+use Rattle.query_tree.specs.Words.{is_package, is_field, relation_of, may_test}
 use Rattle.query_grammar.specs.Reading.{Progress, goes_on, whole, ended, wrong, progress, braces_or, compared, version_at, relation_at, value_at, test_at, arch_at, closed_by, package_at, field_at, begun, is_reference, Level, State, Step, goes, stops, with_member, closed_group, step_having, step_progress, begin_negation, begin_group, step_wanting, step_next, step}
 use Rattle.query_tree.proofs.Lexing.{IsOuter, NotFirst, Separates}
 use Rattle.query_tree.proofs.Fronts.{LastSeparates}
@@ -178,7 +179,7 @@ module _ (front : List Piece) (bytes : List ℕ) where
   test-at name place (Mark c) e = tt
 
   arch-at : (name : List ℕ) (asked : Option (Relation × List ℕ)) (place : Place) (shape : Shape) → place ≡ Outside → ProgressAt place (arch_at name asked (token shape bytes)) (next_place place shape) (front ++ piece shape bytes ∷ [])
-  arch-at name asked place Word e = ProgressAt-if place (is_arch bytes) _ _ _ _ (λ _. ap (λ q. next_place q Word) e) (λ _. tt)
+  arch-at name asked place Word e = ProgressAt-if place (is_architecture bytes) _ _ _ _ (λ _. ap (λ q. next_place q Word) e) (λ _. tt)
   arch-at name asked place Quoted e = tt
   arch-at name asked place Broken e = tt
   arch-at name asked place Blank e = tt

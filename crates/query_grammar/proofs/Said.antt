@@ -28,13 +28,13 @@ one_tree m n text t u a b =
     cc
 
 -- of two fronts of one list, one goes on where the other ends
-fronts : (as bs xs ys : List Piece) → as ++ bs ≡ xs ++ ys → ((more : List Piece) × (xs ≡ as ++ more) × (bs ≡ more ++ ys)) ⊎ ((more : List Piece) × (as ≡ xs ++ more) × (ys ≡ more ++ bs))
-fronts [] bs xs ys e = inl (xs, refl, e)
-fronts (a ∷ as) bs [] ys e = inr (a ∷ as, refl, sym e)
-fronts (a ∷ as) bs (x ∷ xs) ys e =
-    let same : a ≡ x = cc in
-    let rest : as ++ bs ≡ xs ++ ys = cc in
-    elim (fronts as bs xs ys rest) [
+fronts : (us vs xs ys : List Piece) → us ++ vs ≡ xs ++ ys → ((more : List Piece) × (xs ≡ us ++ more) × (vs ≡ more ++ ys)) ⊎ ((more : List Piece) × (us ≡ xs ++ more) × (ys ≡ more ++ vs))
+fronts [] vs xs ys e = inl (xs, refl, e)
+fronts (u ∷ us) vs [] ys e = inr (u ∷ us, refl, sym e)
+fronts (u ∷ us) vs (x ∷ xs) ys e =
+    let same : u ≡ x = cc in
+    let rest : us ++ vs ≡ xs ++ ys = cc in
+    elim (fronts us vs xs ys rest) [
       | inl h ↦ inl (h.0, (λ i. sym same i ∷ h.1 i), h.2)
       | inr h ↦ inr (h.0, (λ i. same i ∷ h.1 i), h.2)
     ]
@@ -50,6 +50,11 @@ one_place levels text p q x y =
       | inr h ↦ (let none : h.0 ≡ [] = y.longest h.0 x.back h.2 (subst (λ f. CanBegin levels f) h.1 x.begins) in x.size ∙ sym (same_size y.front x.front h.0 h.1 none) ∙ sym y.size)
     ]
 
+no_both : (place : ℕ) (t : Tree) (said : Result Tree ℕ) → said ≡ Err place → said ≡ Ok t → ⊥
+no_both place t said e f = cc
+
+same_place : (p q : ℕ) (said : Result Tree ℕ) → said ≡ Err p → said ≡ Err q → p ≡ q
+same_place p q said e f = cc
 
 pub filter_spelled : (text : List ℕ) (t : Tree) → filter_of text ≡ Ok t → QueryText 64 text t
 unfolding filter_of
@@ -65,7 +70,7 @@ filter_read text t h = ap tree_or_place (reading_only text t h)
 
 pub filter_placed : (text : List ℕ) (at : ℕ) → filter_of text ≡ Err at → IsPlace 64 text at × ((t : Tree) → QueryText 64 text t → ⊥)
 unfolding filter_of
-filter_placed text at e = (by_reading (reading text) refl e, λ t q. (let f : Ok t ≡ Err at = sym (ap tree_or_place (reading_only text t q)) ∙ e in cc))
+filter_placed text at e = (by_reading (reading text) refl e, λ t q. no_both at t (tree_or_place (reading text)) e (ap tree_or_place (reading_only text t q)))
   where
     by_reading : (r : Reading) → reading text ≡ r → tree_or_place r ≡ Err at → IsPlace 64 text at
     by_reading (tree u) f g = cc
@@ -104,7 +109,7 @@ pub query_spelled : (text : List ℕ) (t : Tree) → query_of text ≡ Ok t → 
 query_spelled text t e = by_length (nat_lt 4096 (length text)) refl
   where
     by_length : (b : Bool) → nat_lt 4096 (length text) ≡ b → QueryText 64 text t × (length text ≤ 4096)
-    by_length true f = let none : Err 4096 ≡ Ok t = sym (long text (over text f)) ∙ e in cc
+    by_length true f = absurd (no_both 4096 t (query_of text) (long text (over text f)) e)
     by_length false f = (filter_spelled text t (sym (short text (fits text f)) ∙ e), fits text f)
 
 pub query_read : (text : List ℕ) (t : Tree) → QueryText 64 text t × (length text ≤ 4096) → query_of text ≡ Ok t
@@ -114,7 +119,7 @@ pub query_placed : (text : List ℕ) (at : ℕ) → query_of text ≡ Err at →
 query_placed text at e = by_length (nat_lt 4096 (length text)) refl
   where
     by_length : (b : Bool) → nat_lt 4096 (length text) ≡ b → ((4096 < length text) × (at ≡ 4096)) ⊎ ((length text ≤ 4096) × IsPlace 64 text at × ((t : Tree) → QueryText 64 text t → ⊥))
-    by_length true f = let same : Err at ≡ Err 4096 = sym e ∙ long text (over text f) in inl (over text f, (cc))
+    by_length true f = inl (over text f, same_place at 4096 (query_of text) e (long text (over text f)))
     by_length false f = let h = filter_placed text at (sym (short text (fits text f)) ∙ e) in inr (fits text f, h.0, h.1)
 
 pub query_faulty : (text : List ℕ) (at : ℕ) → ((4096 < length text) × (at ≡ 4096)) ⊎ ((length text ≤ 4096) × IsPlace 64 text at × ((t : Tree) → QueryText 64 text t → ⊥)) → query_of text ≡ Err at

@@ -1,6 +1,7 @@
 -- Terms that have begun: the tokens behind each, and what one more token makes of it.
 use Rattle.std.proofs.Common.{◌≡◌, ◌⊎◌, inl, inr, ℕ, ◌==◌, Bool, true, false, cond, List, [], ◌∷◌, ◌++◌, Option, Some, None, IsTrue, refl, sym, ap, ◌∙◌, subst, append_assoc, append-nil}
 use Rattle.std.proofs.lemmas.Bool.{eqb-true}
+use Rattle.ap_text.specs.Names.{is_architecture}
 use Rattle.deb_version.specs.VersionText.{is_version}
 use Rattle.deb_version.specs.declared.order.Relation.{Relation}
 use Rattle.deb_version.specs.declared.order.Relation.TheVariants as relation
@@ -10,7 +11,7 @@ use Rattle.query_grammar.specs.declared.term.Begun.{Begun}
 use Rattle.query_grammar.specs.declared.term.Begun.TheVariants as so_far
 use Rattle.query_tree.specs.Tree.{wanted, field}
 use Rattle.query_tree.specs.Pieces.{Token, word, operator, lone, quoted, broken, mark}
-use Rattle.query_tree.specs.Words.{is_package, is_arch, is_field, relation_of, may_test}
+use Rattle.query_tree.specs.Words.{is_package, is_field, relation_of, may_test}
 use Rattle.query_grammar.proofs.WordFacts.{reference_parts}
 use Rattle.query_tree.specs.Grammar.{Term, Related, Bound, Tested}
 use Rattle.query_grammar.specs.Reading.{Progress, goes_on, whole, ended, wrong, progress, version_at, compared, relation_at, valued, value_at, test_at, arch_at, closed_by, braces_or, package_at, field_at, at_end, begun, is_reference}
@@ -23,7 +24,7 @@ Begins (so_far.Compared name asked) ps = IsTrue (is_package name) × (how : Test
 Begins (so_far.Versioned name asked version) ps = IsTrue (is_package name) × (front : List Token) × (ps ≡ word name ∷ front) × Related (front ++ mark 41 ∷ []) (Some (asked, version))
 Begins (so_far.Related name asked version) ps = IsTrue (is_package name) × (front : List Token) × (ps ≡ word name ∷ front) × Related front (Some (asked, version))
 Begins (so_far.Braced name asked) ps = IsTrue (is_package name) × (front : List Token) × (ps ≡ word name ∷ (front ++ mark 123 ∷ [])) × Related front asked
-Begins (so_far.Bound name asked arch) ps = IsTrue (is_package name) × (front : List Token) × (ps ≡ word name ∷ (front ++ mark 123 ∷ word arch ∷ [])) × Related front asked × IsTrue (is_arch arch)
+Begins (so_far.Bound name asked arch) ps = IsTrue (is_package name) × (front : List Token) × (ps ≡ word name ∷ (front ++ mark 123 ∷ word arch ∷ [])) × Related front asked × IsTrue (is_architecture arch)
 Begins (so_far.Field name) ps = IsTrue (is_field name) × (ps ≡ word name ∷ [])
 Begins (so_far.FieldOpened name) ps = IsTrue (is_field name) × (ps ≡ word name ∷ mark 40 ∷ [])
 Begins (so_far.Tested name how) ps = IsTrue (is_field name) × (ps ≡ word name ∷ mark 40 ∷ operator how ∷ [])
@@ -93,7 +94,7 @@ closed_makes c next ps p h = tt
 
 arch_makes : (name : List ℕ) (asked : Option (Relation × List ℕ)) (ps : List Token) (p : Token) → Begins (so_far.Braced name asked) ps → Makes ps p (arch_at name asked p)
 arch_makes name asked ps (word arch) (n, front, e, r) =
-    Makes-if ps (word arch) (is_arch arch) _ _ (λ a. (n, front, ap (λ qs. qs ++ word arch ∷ []) e ∙ ap (λ qs. word name ∷ qs) (append_assoc front (mark 123 ∷ []) (word arch ∷ [])), r, a)) (λ _. tt)
+    Makes-if ps (word arch) (is_architecture arch) _ _ (λ a. (n, front, ap (λ qs. qs ++ word arch ∷ []) e ∙ ap (λ qs. word name ∷ qs) (append_assoc front (mark 123 ∷ []) (word arch ∷ [])), r, a)) (λ _. tt)
 arch_makes name asked ps p h = tt
 
 bound-whole : (name : List ℕ) (asked : Option (Relation × List ℕ)) (arch : List ℕ) (ps : List Token) → Begins (so_far.Bound name asked arch) ps → Term (ps ++ mark 125 ∷ []) (wanted name asked (Some arch))

@@ -10,16 +10,16 @@ use Rattle.std.proofs.lemmas.Bool.{eqb-true, and_parts, or_cases, not-true, true
 use Rattle.std.proofs.Math.Bool.{and-true}
 use Rattle.std.proofs.lemmas.Bool.Decides.{nat_tests}
 use Rattle.std.proofs.lemmas.Slice.Eq.{bytes_eq-Decides}
+use Rattle.ap_text.specs.Names.{is_architecture}
 use Rattle.deb_version.specs.VersionText.{is_version}
-use Rattle.query_tree.specs.Words.{IsReference, is_package, is_plain_version, is_arch, is_field, is_underscore, is_lower_or_digit, is_upper, is_special_field, has_no_underscore}
+use Rattle.query_tree.specs.Words.{IsReference, is_package, is_plain_version, is_field, is_underscore, is_lower_or_digit, is_upper, is_special_field, has_no_underscore}
 use Rattle.query_grammar.specs.Reading.{goes_on, whole, wrong, begun, is_reference, as_reference, reference_in}
 use Rattle.query_grammar.specs.declared.term.Begun.TheVariants.{Package, Field}
 use Rattle.query_grammar.specs.declared.fault.QueryKind.TheVariants.{WantTerm}
 use Rattle.query_tree.specs.Tree.{reference}
 
-is_arch-nil : is_arch [] ≡ false
-unfolding is_arch
-is_arch-nil = refl
+is_architecture-nil : is_architecture [] ≡ false
+is_architecture-nil = refl
 
 after-inside : (text : List ℕ) → (after_first is_underscore text ≡ [] → ⊥) → position_or_len is_underscore text < length text
 after-inside text h =
@@ -34,8 +34,8 @@ cut_at_first text h =
     split_at_first is_underscore text 0 l
     ∙ ap (λ c. before_first is_underscore text ++ c ∷ after_first is_underscore text) (eqb-true _ 95 (passes_at_first is_underscore text 0 l))
 
-arch-some : (text : List ℕ) → is_arch text ≡ true → text ≡ [] → ⊥
-arch-some text h e = true≢false (sym h ∙ ap is_arch e ∙ is_arch-nil)
+arch-some : (text : List ℕ) → is_architecture text ≡ true → text ≡ [] → ⊥
+arch-some text h e = true≢false (sym h ∙ ap is_architecture e ∙ is_architecture-nil)
 
 pub reference_parts : (text : List ℕ) → is_reference text ≡ true → IsReference text (before_first is_underscore text) (before_first is_underscore (after_first is_underscore text)) (after_first is_underscore (after_first is_underscore text))
 unfolding is_reference
@@ -98,7 +98,7 @@ before-at xs ys h = rw (first-at xs ys h) (take-append_seam xs (95 ∷ ys))
 after-at : (xs ys : List ℕ) → has_no_underscore xs ≡ true → after_first is_underscore (xs ++ 95 ∷ ys) ≡ ys
 after-at xs ys h = rw (first-at xs ys h) (drop-append-add xs (95 ∷ ys) 1)
 
-reference_is : (name version arch : List ℕ) → is_package name ≡ true → is_plain_version version ≡ true → is_arch arch ≡ true → is_reference (name ++ 95 ∷ (version ++ 95 ∷ arch)) ≡ true
+reference_is : (name version arch : List ℕ) → is_package name ≡ true → is_plain_version version ≡ true → is_architecture arch ≡ true → is_reference (name ++ 95 ∷ (version ++ 95 ∷ arch)) ≡ true
 unfolding is_reference is_plain_version
 reference_is name version arch n v a =
     let u = (package_first name n).1 in
@@ -106,7 +106,7 @@ reference_is name version arch n v a =
     let e = before-at name (version ++ 95 ∷ arch) u in
     let f = after-at name (version ++ 95 ∷ arch) u in
     and_from _ _ (and_from _ _ (ap is_package e ∙ n) (ap (λ xs. is_plain_version (before_first is_underscore xs)) f ∙ ap is_plain_version (before-at version arch w) ∙ v))
-    (ap (λ xs. is_arch (after_first is_underscore xs)) f ∙ ap is_arch (after-at version arch w) ∙ a)
+    (ap (λ xs. is_architecture (after_first is_underscore xs)) f ∙ ap is_architecture (after-at version arch w) ∙ a)
 
 -- what each kind of word begins
 pub begun-package : (text : List ℕ) → is_package text ≡ true → begun text ≡ goes_on (Package text)
@@ -148,13 +148,13 @@ pub no_underscore_no_reference : (text : List ℕ) → position_or_len is_unders
 unfolding is_reference
 no_underscore_no_reference text e =
     let none : after_first is_underscore text ≡ [] = drop_all (position_or_len is_underscore text + 1) text (omega arith) in
-    and_right _ _ (ap (λ xs. is_arch (after_first is_underscore xs)) none ∙ is_arch-nil)
+    and_right _ _ (ap (λ xs. is_architecture (after_first is_underscore xs)) none ∙ is_architecture-nil)
 
 pub one_underscore_no_reference : (text : List ℕ) → position_or_len is_underscore (after_first is_underscore text) ≡ length (after_first is_underscore text) → is_reference text ≡ false
 unfolding is_reference
 one_underscore_no_reference text e =
     let none : after_first is_underscore (after_first is_underscore text) ≡ [] = drop_all (position_or_len is_underscore (after_first is_underscore text) + 1) (after_first is_underscore text) (omega arith) in
-    and_right _ _ (ap is_arch none ∙ is_arch-nil)
+    and_right _ _ (ap is_architecture none ∙ is_architecture-nil)
 
 before-no_underscore : (xs : List ℕ) → has_no_underscore (before_first is_underscore xs) ≡ true
 before-no_underscore [] = refl
@@ -175,4 +175,4 @@ pub as_reference_by_parts : (text : List ℕ) → as_reference text ≡ referenc
 unfolding is_reference
 as_reference_by_parts text =
     let rest = after_first is_underscore text in
-    ap (λ b. cond (is_package (before_first is_underscore text) && b && is_arch (after_first is_underscore rest)) (whole (reference (before_first is_underscore text) (before_first is_underscore rest) (after_first is_underscore rest))) (wrong WantTerm)) (before-plain rest)
+    ap (λ b. cond (is_package (before_first is_underscore text) && b && is_architecture (after_first is_underscore rest)) (whole (reference (before_first is_underscore text) (before_first is_underscore rest) (after_first is_underscore rest))) (wrong WantTerm)) (before-plain rest)

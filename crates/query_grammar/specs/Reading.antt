@@ -1,6 +1,7 @@
 -- Queries read piece by piece: the tree, or the first fault and its place.
 use Rattle.std.specs.Prelude.{ℕ, suc, zero, ◌+◌, ◌-◌, Bool, ◌&&◌, ◌==◌, List, [], ◌∷◌, ◌++◌, length, Option, Some, None, if◌then◌else◌}
 use Rattle.std.specs.List.{before_first, after_first}
+use Rattle.ap_text.specs.Names.{is_architecture}
 use Rattle.deb_version.specs.VersionText.{is_version}
 use Rattle.deb_version.specs.declared.order.Relation.{Relation}
 use Rattle.deb_version.specs.declared.order.Relation.TheVariants as relation
@@ -14,7 +15,7 @@ use Rattle.query_grammar.specs.declared.fault.QueryKind.{QueryKind}
 use Rattle.query_grammar.specs.declared.fault.QueryKind.TheVariants.{TooDeep, WantTerm, BadOperator, BadVersion, WantClose, WantValue, Trailing}
 use Rattle.query_tree.specs.Tree.{Tree, reference, wanted, field, negated}
 use Rattle.query_tree.specs.Pieces.{Piece, Token, token, gap, word, operator, lone, quoted, broken, mark, pieces}
-use Rattle.query_tree.specs.Words.{is_package, is_plain_version, is_arch, is_field, is_underscore, relation_of, may_test}
+use Rattle.query_tree.specs.Words.{is_package, is_plain_version, is_field, is_underscore, relation_of, may_test}
 use Rattle.query_tree.specs.Grammar.{all_of, any_of}
 
 -- what a piece makes of a term: it goes on, it is whole with the piece, it was whole before, or the piece is wrong
@@ -35,11 +36,11 @@ arch_in text = after_first is_underscore (after_first is_underscore text)
 
 -- the text is `name_version_arch`
 unfoldable pub is_reference : List ℕ → Bool
-is_reference text = is_package (name_in text) && is_plain_version (version_in text) && is_arch (arch_in text)
+is_reference text = is_package (name_in text) && is_plain_version (version_in text) && is_architecture (arch_in text)
 
 -- the same by the parts between the first two `_`
 abbrev pub reference_in : List ℕ → List ℕ → List ℕ → Progress
-reference_in name version arch = if is_package name && is_version version && is_arch arch then whole (reference name version arch) else wrong WantTerm
+reference_in name version arch = if is_package name && is_version version && is_architecture arch then whole (reference name version arch) else wrong WantTerm
 
 -- a word that is no name of a package or of a field
 abbrev pub as_reference : List ℕ → Progress
@@ -90,7 +91,7 @@ test_at name t = value_at name test.Equal t
 
 -- a piece where an architecture must stand
 abbrev pub arch_at : List ℕ → Option (Relation × List ℕ) → Token → Progress
-arch_at name asked (word bytes) = if is_arch bytes then goes_on (Bound name asked bytes) else wrong WantValue
+arch_at name asked (word bytes) = if is_architecture bytes then goes_on (Bound name asked bytes) else wrong WantValue
 arch_at name asked t = wrong WantValue
 
 -- a piece where only one mark may stand

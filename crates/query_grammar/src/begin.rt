@@ -9,10 +9,10 @@ ghost use Rattle.query_grammar.specs.Views.{progress_view};
 
 use crate::fault::QueryKind;
 use crate::term::{Begun, Progress};
-use ap_text::Name;
+use ap_text::{Name, is_architecture};
 use control_stanza::Text;
 use deb_version::Version;
-use query_tree::{Query, arch_of, is_arch, is_field, is_package, package_of, version_of};
+use query_tree::{Query, arch_of, is_field, is_package, package_of, version_of};
 use std::alloc::{AllocError, Global};
 
 /// What stands before the first `_`, and what follows it.
@@ -50,7 +50,7 @@ fn reference_by_parts(
     let Some(version) = version_of(alloc, version)? else {
         return Ok(Progress::Wrong(QueryKind::WantTerm));
     };
-    if !is_arch(arch) {
+    if !is_architecture(arch) {
         return Ok(Progress::Wrong(QueryKind::WantTerm));
     }
     let name = package_of(alloc, name)?;

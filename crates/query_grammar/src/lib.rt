@@ -12,5 +12,7 @@ mod value;
 
 pub use fault::{QueryFault, QueryKind};
 pub use laws::{queries_have_one_tree, queries_say_their_trees};
-pub use query_tree::{Query, Test, write_query, written_query_is_one_line, written_query_is_read_back};
+pub use query_tree::{
+    Query, Test, write_query, written_query_is_one_line, written_query_is_read_back,
+};
 pub use read::{read_filter, read_query};

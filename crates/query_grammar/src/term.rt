@@ -10,10 +10,10 @@ ghost use Rattle.query_grammar.specs.Views.{progress_view};
 
 use crate::fault::QueryKind;
 use crate::value;
-use ap_text::Name;
+use ap_text::{Name, is_architecture};
 use control_stanza::Text;
 use deb_version::{Relation, Version};
-use query_tree::{Query, Shape, Test, arch_of, is_arch, may_test, version_of};
+use query_tree::{Query, Shape, Test, arch_of, may_test, version_of};
 use std::alloc::{AllocError, Global};
 
 /// A term that has begun and may go on, by what stands of it so far.
@@ -121,13 +121,13 @@ fn relation_at(alloc: Global, name: Name, shape: Shape, text: &str) -> Result<Pr
     }
 }
 
-fn valued(alloc: Global, field: Text, test: Test, value: Text) -> Result<Progress, AllocError>
-    ensures { IfOk result (λ p. progress_view p ≡ valued_as field test value) }
+fn valued(field: Text, test: Test, value: Text) -> Progress
+    ensures { progress_view result ≡ valued_as field test value }
 {
-    if !may_test(alloc, field.as_str(), test, value.as_str())? {
-        return Ok(Progress::Wrong(QueryKind::BadVersion));
+    if !may_test(field.as_str(), test, value.as_str()) {
+        return Progress::Wrong(QueryKind::BadVersion);
     }
-    Ok(Progress::GoesOn(Begun::Valued(field, test, value)))
+    Progress::GoesOn(Begun::Valued(field, test, value))
 }
 
 /// A piece where a value must stand.
@@ -142,8 +142,8 @@ fn value_at(
     ensures { IfOk result (λ p. progress_view p ≡ value_read field test (token shape text.now)) }
 {
     match shape {
-        Shape::Word => valued(alloc, field, test, Text::new(alloc, text)?),
-        Shape::Quoted => valued(alloc, field, test, value::quoted(alloc, text)?),
+        Shape::Word => Ok(valued(field, test, Text::new(alloc, text)?)),
+        Shape::Quoted => Ok(valued(field, test, value::quoted(alloc, text)?)),
         Shape::Broken => Ok(Progress::Wrong(QueryKind::WantClose)),
         _ => Ok(Progress::Wrong(QueryKind::WantValue)),
     }
@@ -173,7 +173,7 @@ fn arch_at(
 {
     match shape {
         Shape::Word => {
-            if !is_arch(text) {
+            if !is_architecture(text) {
                 return Ok(Progress::Wrong(QueryKind::WantValue));
             }
             let arch = arch_of(alloc, text)?;

@@ -1,6 +1,7 @@
 -- The grammar of queries, as a relation between tokens and the tree that they spell (aptly manual,
 -- package query syntax).
 use Rattle.std.specs.Prelude.{◌≡◌, ℕ, suc, zero, ◌⊎◌, List, [], ◌∷◌, ◌++◌, Option, Some, None, IsTrue}
+use Rattle.ap_text.specs.Names.{is_architecture}
 use Rattle.deb_version.specs.VersionText.{is_version}
 use Rattle.deb_version.specs.declared.order.Relation.{Relation}
 use Rattle.deb_version.specs.declared.order.Relation.TheVariants as relation
@@ -8,7 +9,7 @@ use Rattle.query_tree.specs.declared.query.Test.{Test}
 use Rattle.query_tree.specs.declared.query.Test.TheVariants as test
 use Rattle.query_tree.specs.Tree.{Tree, listed, any, all, negated, reference, wanted, field}
 use Rattle.query_tree.specs.Pieces.{Token, word, operator, quoted, mark, pieces, tokens}
-use Rattle.query_tree.specs.Words.{IsReference, is_package, is_arch, is_field, relation_of, may_test}
+use Rattle.query_tree.specs.Words.{IsReference, is_package, is_field, relation_of, may_test}
 
 -- `( [op] version )` or nothing; without op `=` is meant
 abbrev pub Related : List Token → Option (Relation × List ℕ) → Type 0
@@ -21,7 +22,7 @@ Related ps (Some (asked, version)) =
 -- `{ arch }` or nothing
 abbrev pub Bound : List Token → Option (List ℕ) → Type 0
 Bound ps None = ps ≡ []
-Bound ps (Some arch) = IsTrue (is_arch arch) × (ps ≡ mark 123 ∷ word arch ∷ mark 125 ∷ [])
+Bound ps (Some arch) = IsTrue (is_architecture arch) × (ps ≡ mark 123 ∷ word arch ∷ mark 125 ∷ [])
 
 -- a run of word characters, or a quoted value
 abbrev pub IsValue : Token → List ℕ → Type 0

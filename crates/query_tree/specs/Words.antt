@@ -1,7 +1,7 @@
 -- What the words of a query are: references, names of packages and of fields, architectures, versions.
 use Rattle.std.specs.Prelude.{◌≡◌, ℕ, Bool, true, false, not, ◌&&◌, ◌||◌, ◌==◌, nat_le, List, ◌∷◌, ◌++◌, slice_index, bytes_eq, codes, IsTrue, Option, Some, None}
 use Rattle.std.specs.List.{list_all}
-use Rattle.ap_text.specs.Names.{is_name}
+use Rattle.ap_text.specs.Names.{is_name, is_architecture}
 use Rattle.deb_version.specs.VersionText.{is_version}
 use Rattle.deb_version.specs.declared.order.Relation.{Relation}
 use Rattle.deb_version.specs.declared.order.Relation.TheVariants.{Earlier, EarlierEqual, Equal, LaterEqual, Later}
@@ -21,10 +21,6 @@ has_no_underscore text = list_all (λ c. not (c == 95)) text
 -- 1 to 200 bytes of letters, digits, `+ - .`, the first a lower case letter or a digit
 unfoldable pub is_package : List ℕ → Bool
 is_package text = is_name text && has_no_underscore text && is_lower_or_digit (slice_index text 0)
-
--- a name other than `source`
-unfoldable pub is_arch : List ℕ → Bool
-is_arch text = is_name text && not (bytes_eq text (codes "source"))
 
 -- one of the five special fields
 abbrev pub is_special_field : List ℕ → Bool
@@ -48,7 +44,7 @@ pub record IsReference (text name version arch : List ℕ) : Type 0 where
   pub parts : text ≡ name ++ 95 ∷ (version ++ 95 ∷ arch)
   pub named : IsTrue (is_package name)
   pub dated : IsTrue (is_plain_version version)
-  pub bound : IsTrue (is_arch arch)
+  pub bound : IsTrue (is_architecture arch)
 
 -- the relation that an operator asks for
 abbrev pub relation_of : Test → Option Relation

@@ -1,6 +1,7 @@
 -- How a query is written.
-use Rattle.std.specs.Prelude.{ℕ, Bool, true, false, not, ◌&&◌, ◌||◌, ◌==◌, List, [], ◌∷◌, ◌++◌, Option, Some, None, if◌then◌else◌}
+use Rattle.std.specs.Prelude.{ℕ, Bool, true, false, not, ◌&&◌, ◌||◌, ◌==◌, List, [], ◌∷◌, ◌++◌, Option, Some, None, codes, if◌then◌else◌}
 use Rattle.std.specs.List.{list_all}
+use Rattle.deb_version.specs.VersionOrder.{operator}
 use Rattle.deb_version.specs.declared.order.Relation.{Relation}
 use Rattle.deb_version.specs.declared.order.Relation.TheVariants.{Earlier, EarlierEqual, LaterEqual, Later}
 use Rattle.deb_version.specs.declared.order.Relation.TheVariants as relation
@@ -10,14 +11,15 @@ use Rattle.query_tree.specs.declared.query.Test.TheVariants as test
 use Rattle.query_tree.specs.Tree.{Tree, Trees, any, all, negated, reference, wanted, field, nil, cons}
 use Rattle.query_tree.specs.Pieces.{is_word, is_control}
 
+-- how each test is written: a comparing one by the operator of its relation
 abbrev pub test_text : Test → List ℕ
-test_text test.Equal = 61 ∷ []
-test_text Less = 60 ∷ 60 ∷ []
-test_text LessEqual = 60 ∷ 61 ∷ []
-test_text GreaterEqual = 62 ∷ 61 ∷ []
-test_text Greater = 62 ∷ 62 ∷ []
-test_text Glob = 37 ∷ []
-test_text Pattern = 126 ∷ []
+test_text test.Equal = operator relation.Equal
+test_text Less = operator Earlier
+test_text LessEqual = operator EarlierEqual
+test_text GreaterEqual = operator LaterEqual
+test_text Greater = operator Later
+test_text Glob = codes "%"
+test_text Pattern = codes "~"
 
 -- the test whose operator asks for the relation
 abbrev pub test_of : Relation → Test

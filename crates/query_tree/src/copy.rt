@@ -6,7 +6,7 @@ ghost use Rattle.query_tree.specs.Tree.{plain, plains};
 use crate::query::{Query, Test};
 use ap_text::Name;
 use control_stanza::Text;
-use deb_version::{Relation, Version};
+use deb_version::copy_relation;
 use std::alloc::{AllocError, Global};
 
 impl Query {
@@ -54,18 +54,6 @@ fn copy_all(alloc: Global, queries: &[Query]) -> Result<Vec<Query>, AllocError>
         all.push(queries[i].copy(alloc)?)?;
     }
     Ok(all)
-}
-
-fn copy_relation(
-    alloc: Global,
-    relation: &Option<(Relation, Version)>,
-) -> Result<Option<(Relation, Version)>, AllocError>
-    ensures { IfOk result (λ made. made ≡ relation.now) }
-{
-    match relation {
-        None => Ok(None),
-        Some((asked, version)) => Ok(Some((*asked, version.copy(alloc)?))),
-    }
 }
 
 fn copy_arch(alloc: Global, arch: &Option<Name>) -> Result<Option<Name>, AllocError>

@@ -12,5 +12,5 @@ mod write_tree;
 pub use laws::{written_query_is_one_line, written_query_is_read_back};
 pub use piece::{Cut, Place, Shape, first_cut, next_place};
 pub use query::{Query, Test};
-pub use words::{arch_of, is_arch, is_field, is_package, may_test, package_of, version_of};
+pub use words::{arch_of, is_field, is_package, may_test, package_of, version_of};
 pub use write_tree::write_query;

@@ -1,9 +1,9 @@
 //! The words of queries: names of packages and of fields, architectures, versions.
 
 ghost use Rattle.std.specs.Prelude.{◌≡◌, IsTrue, IsFalse, IfOk, MatchOption, slice_index};
-ghost use Rattle.ap_text.specs.Names.{is_name};
+ghost use Rattle.ap_text.specs.Names.{is_name, is_architecture as architecture};
 ghost use Rattle.deb_version.specs.VersionText.{is_version};
-ghost use Rattle.query_tree.specs.Words.{has_no_underscore as no_underscore, is_lower_or_digit as lower_or_digit, is_package as package_name, is_arch as architecture, is_upper as upper, is_special_field as special_field, is_field as field_name, is_comparing as comparing, wants_version as asks_version, may_test as allows};
+ghost use Rattle.query_tree.specs.Words.{has_no_underscore as no_underscore, is_lower_or_digit as lower_or_digit, is_package as package_name, is_upper as upper, is_special_field as special_field, is_field as field_name, is_comparing as comparing, wants_version as asks_version, may_test as allows};
 
 use crate::query::Test;
 use ap_text::Name;
@@ -33,14 +33,6 @@ pub fn is_package(word: &str) -> bool
     ap_text::is_name(word)
         && has_no_underscore(word.as_bytes())
         && begins_lower_or_digit(word.as_bytes())
-}
-
-/// An architecture, or `all`.
-#[tactic(auto, unfolding(crate::specs::Words::is_arch))]
-pub fn is_arch(word: &str) -> bool
-    ensures { result ≡ architecture word.now }
-{
-    ap_text::is_name(word) && word != "source"
 }
 
 fn begins_upper(text: &[u8]) -> bool
@@ -128,24 +120,10 @@ pub fn package_of(alloc: Global, text: &str) -> Result<Name, AllocError>
     name_of(alloc, text)
 }
 
-fn is_version_text(alloc: Global, text: &str) -> Result<bool, AllocError>
-    ensures { IfOk result (λ yes. yes ≡ is_version text.now) }
-{
-    Ok(version_of(alloc, text)?.is_some())
-}
-
 /// The value may stand in the test of the field.
 #[tactic(auto, unfolding(crate::specs::Words::may_test))]
-pub fn may_test(
-    alloc: Global,
-    field: &str,
-    test: Test,
-    value: &str,
-) -> Result<bool, AllocError>
-    ensures { IfOk result (λ yes. yes ≡ allows field.now test value.now) }
+pub fn may_test(field: &str, test: Test, value: &str) -> bool
+    ensures { result ≡ allows field.now test value.now }
 {
-    if !wants_version(field, test) {
-        return Ok(true);
-    }
-    is_version_text(alloc, value)
+    !wants_version(field, test) || deb_version::is_version(value)
 }

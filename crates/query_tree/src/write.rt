@@ -18,18 +18,24 @@ pub(crate) fn put(out: &mut Vec<u8>, bytes: &[u8]) -> Result<(), AllocError>
     out.extend_from_slice(bytes)
 }
 
+fn text_of(test: Test) -> &'static str
+    ensures { result.now ≡ test_text test }
+{
+    match test {
+        Test::Equal => Relation::Equal.operator(),
+        Test::Less => Relation::Earlier.operator(),
+        Test::LessEqual => Relation::EarlierEqual.operator(),
+        Test::GreaterEqual => Relation::LaterEqual.operator(),
+        Test::Greater => Relation::Later.operator(),
+        Test::Glob => "%",
+        Test::Pattern => "~",
+    }
+}
+
 fn put_test(out: &mut Vec<u8>, test: Test) -> Result<(), AllocError>
     ensures { OnOk result (out.new.items ≡ out.old.items ++ test_text test) }
 {
-    match test {
-        Test::Equal => put(out, b"="),
-        Test::Less => put(out, b"<<"),
-        Test::LessEqual => put(out, b"<="),
-        Test::GreaterEqual => put(out, b">="),
-        Test::Greater => put(out, b">>"),
-        Test::Glob => put(out, b"%"),
-        Test::Pattern => put(out, b"~"),
-    }
+    put(out, text_of(test).as_bytes())
 }
 
 fn test_of(relation: Relation) -> Test
