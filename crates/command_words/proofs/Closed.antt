@@ -6,14 +6,14 @@ use Rattle.std.proofs.lemmas.List.{take-append-drop, length-take}
 use Rattle.std.specs.List.{find, list_any, prefix_len}
 use Rattle.std.specs.Prelude.{codes}
 use Rattle.std.specs.Str.{bytes_eq}
-use Rattle.command_words.specs.declared.table.Arguments.{Arguments}
-use Rattle.command_words.specs.declared.table.Arguments.TheVariants.{Between, AtLeast, Apart, Origin, Sources, Switched}
-use Rattle.command_words.specs.Arguments.{arguments_begin, is_onto_itself, begins_origin, is_source_kind}
-use Rattle.command_words.specs.Flags.{is_flag, flags_stand, flags_stand_after}
-use Rattle.command_words.specs.Plain.{Word, Words, PlainCommand}
+use Rattle.command_table.specs.declared.table.Arguments.{Arguments}
+use Rattle.command_table.specs.declared.table.Arguments.TheVariants.{Between, AtLeast, Apart, Origin, Sources, Switched}
+use Rattle.command_table.specs.Arguments.{arguments_begin, is_onto_itself, begins_origin, is_source_kind}
+use Rattle.command_table.specs.Flags.{is_flag, flags_stand, flags_stand_after}
+use Rattle.command_table.specs.Plain.{Word, Words, PlainCommand}
 use Rattle.command_words.specs.Spelled.{command_of, components_len, flags_of, after_flags, mark_len, arguments_of, row_begins, row_ends, spelled_by, begun_by, begins, is_command}
-use Rattle.command_words.specs.Table.{FlagRule, RowRule, table, has_key}
-use Rattle.command_words.proofs.Standing.{flags_stand_after-append, both}
+use Rattle.command_table.specs.Table.{FlagRule, RowRule, table, has_key}
+use Rattle.command_table.proofs.Standing.{flags_stand_after-append, both}
 use Rattle.command_words.proofs.Fronts.{row_begins-flags, row_begins-past, mark_len-small}
 
 -- ---- flags and arguments

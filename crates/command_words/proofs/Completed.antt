@@ -9,14 +9,14 @@ use Rattle.std.proofs.lemmas.Slice.Eq.{bytes_eq-Decides}
 use Rattle.std.specs.List.{find, list_any, list_all, prefix_len}
 use Rattle.std.specs.Prelude.{codes}
 use Rattle.std.specs.Str.{bytes_eq}
-use Rattle.command_words.specs.declared.table.Arguments.{Arguments}
-use Rattle.command_words.specs.declared.table.Arguments.TheVariants.{Between, AtLeast, Apart, Origin, Sources, Switched}
-use Rattle.command_words.specs.Arguments.{arguments_begin, arguments_end, is_onto_itself, begins_origin}
+use Rattle.command_table.specs.declared.table.Arguments.{Arguments}
+use Rattle.command_table.specs.declared.table.Arguments.TheVariants.{Between, AtLeast, Apart, Origin, Sources, Switched}
+use Rattle.command_table.specs.Arguments.{arguments_begin, arguments_end, is_onto_itself, begins_origin}
 use Rattle.command_words.specs.Commands.{Begins}
-use Rattle.command_words.specs.Flags.{is_flag, flags_stand}
-use Rattle.command_words.specs.Plain.{Word, Words, PlainCommand}
+use Rattle.command_table.specs.Flags.{is_flag, flags_stand}
+use Rattle.command_table.specs.Plain.{Word, Words, PlainCommand}
 use Rattle.command_words.specs.Spelled.{command_of, components_len, flags_of, after_flags, mark_len, arguments_of, row_begins, row_ends, spelled_by, begun_by, begins, is_command}
-use Rattle.command_words.specs.Table.{RowRule, table, has_key}
+use Rattle.command_table.specs.Table.{RowRule, table, has_key}
 use Rattle.command_words.proofs.Fronts.{arguments_begin-nil, mark_len-le}
 use Rattle.command_words.proofs.Closed.{row_parts}
 

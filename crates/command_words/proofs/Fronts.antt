@@ -7,12 +7,12 @@ use Rattle.std.proofs.lemmas.List.Folds.{length-prefix_len}
 use Rattle.std.specs.List.{prefix_len}
 use Rattle.std.specs.Prelude.{codes, Option}
 use Rattle.std.specs.Str.{bytes_eq}
-use Rattle.command_words.specs.declared.table.Arguments.{Arguments}
-use Rattle.command_words.specs.declared.table.Arguments.TheVariants.{Between, AtLeast, Apart, Origin, Sources, Switched}
-use Rattle.command_words.specs.Plain.{Words}
-use Rattle.command_words.specs.Table.{RowRule}
-use Rattle.command_words.specs.Flags.{is_flag, flags_stand, IsLongestStanding}
-use Rattle.command_words.specs.Arguments.{arguments_begin, arguments_end, IsFirstFault, Judges}
+use Rattle.command_table.specs.declared.table.Arguments.{Arguments}
+use Rattle.command_table.specs.declared.table.Arguments.TheVariants.{Between, AtLeast, Apart, Origin, Sources, Switched}
+use Rattle.command_table.specs.Plain.{Words}
+use Rattle.command_table.specs.Table.{RowRule}
+use Rattle.command_table.specs.Flags.{is_flag, flags_stand, IsLongestStanding}
+use Rattle.command_table.specs.Arguments.{arguments_begin, arguments_end, IsFirstFault, Judges}
 use Rattle.command_words.specs.Spelled.{components_len, flags_of, after_flags, mark_len, arguments_of, row_begins, row_ends}
 
 min-suc : (m n : ℕ) → min m n ≡ n → min (suc m) n ≡ n

@@ -1,7 +1,3 @@
-pub mod Rows
-pub mod Dashes
-pub mod Different
-pub mod Standing
 pub mod Fronts
 pub mod Lifted
 pub mod Commas

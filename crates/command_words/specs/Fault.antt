@@ -2,10 +2,10 @@
 use Rattle.std.specs.Prelude.{◌≡◌, ℕ, ◌+◌}
 use Rattle.command_words.specs.declared.fault.WordFault.{WordFault}
 use Rattle.command_words.specs.declared.fault.WordFault.TheVariants.{At, OutOfMemory}
-use Rattle.command_words.specs.Arguments.{IsFirstFault}
-use Rattle.command_words.specs.Plain.{Words}
+use Rattle.command_table.specs.Arguments.{IsFirstFault}
+use Rattle.command_table.specs.Plain.{Words}
 use Rattle.command_words.specs.Spelled.{row_begins, row_ends, begins, is_command}
-use Rattle.command_words.specs.Table.{RowRule}
+use Rattle.command_table.specs.Table.{RowRule}
 
 -- a fault is at such a place; want of memory may come at any time
 abbrev pub IsAt : (ℕ → Type 0) → WordFault → Type 0

@@ -1,8 +1,5 @@
-pub mod Plain
-pub mod Table
-pub mod Flags
-pub mod Arguments
 pub mod Spelled
 pub mod Fault
 pub mod Commands
 pub mod Cutting
+pub use Rattle.command_table.specs.Plain

@@ -1,14 +1,15 @@
 //! A command, made of its flags and its arguments.
 ghost use Rattle.std.specs.Prelude.{◌≡◌, ◌+◌, ◌<◌, ◌^◌, ◌≤◌, IfOk, option_map, drop, take, slice_get, length};
-ghost use Rattle.command_words.specs.Plain.{plain, plain_follow};
-ghost use Rattle.command_words.specs.declared.table.PublishVerb.TheVariants as publish;
-ghost use Rattle.command_words.specs.declared.table.RepoVerb.TheVariants as repo;
-ghost use Rattle.command_words.specs.declared.table.SnapshotVerb.TheVariants as snapshot;
+ghost use Rattle.command_table.specs.Plain.{plain, plain_follow};
+ghost use Rattle.command_table.specs.declared.table.PublishVerb.TheVariants as publish;
+ghost use Rattle.command_table.specs.declared.table.RepoVerb.TheVariants as repo;
+ghost use Rattle.command_table.specs.declared.table.SnapshotVerb.TheVariants as snapshot;
 ghost use Rattle.command_words.specs.Spelled.{word_at, follow_of, components_len, origin_of, mirror_command, repo_command, snapshot_command, publish_command, other_command, command_of};
 
-use crate::command::{Command, Follow, Origin};
-use crate::flags::{switch_of, text_of, texts_of};
-use crate::table::{Kind, MirrorVerb, OtherVerb, PublishVerb, RepoVerb, SnapshotVerb};
+use command_table::{
+    Command, Follow, Kind, MirrorVerb, Origin, OtherVerb, PublishVerb, RepoVerb, SnapshotVerb,
+    copies, switch_of, text_of, texts_of,
+};
 use control_stanza::Text;
 use std::alloc::{AllocError, Global};
 
@@ -30,16 +31,6 @@ fn maybe_at(alloc: Global, words: &[Text], i: usize) -> Result<Option<Text>, All
         Some(word) => Ok(Some(word.copy(alloc)?)),
         None => Ok(None),
     }
-}
-
-fn copies(alloc: Global, words: &[Text]) -> Result<Vec<Text>, AllocError>
-    ensures { IfOk result (λ texts. texts.items ≡ words.now) }
-{
-    let mut texts = Vec::new(alloc);
-    for word in words {
-        texts.push(word.copy(alloc)?)?;
-    }
-    Ok(texts)
 }
 
 /// Copies of the words from a place on.

@@ -2,11 +2,11 @@
 ghost use Rattle.std.specs.Prelude.{◌≡◌, true, Some, IfOk, IfErr, map};
 ghost use Rattle.command_words.specs.Commands.{is_from_to, is_demo_number, demonstration, demo_place, rest_of, cut, listed};
 ghost use Rattle.command_words.specs.declared.fault.WordFault.TheVariants.{OutOfMemory};
-ghost use Rattle.command_words.specs.Plain.{plain};
+ghost use Rattle.command_table.specs.Plain.{plain};
 
-use crate::command::Command;
 use crate::fault::WordFault;
 use crate::list::read_list;
+use command_table::Command;
 use control_stanza::Text;
 use std::alloc::{AllocError, Global};
 
@@ -64,7 +64,7 @@ static DEMONSTRATION: [&str; 50] = [
     "cleanup",
 ];
 
-#[tactic(auto, unfolding(crate::specs::Table::table, crate::specs::Spelled::row_begins, crate::specs::Spelled::row_ends, crate::specs::Spelled::command_of, crate::specs::Flags::flag_stands))]
+#[tactic(auto, unfolding(command_table::specs::Table::table, crate::specs::Spelled::row_begins, crate::specs::Spelled::row_ends, crate::specs::Spelled::command_of, command_table::specs::Flags::flag_stands))]
 fn written_demonstration() -> &'static [&'static str]
     ensures { listed (cut 2 (map (λ w. w.now) result.now)) ≡ Some demonstration }
 {

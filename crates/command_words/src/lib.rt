@@ -1,21 +1,17 @@
 //! The words of a command line, read as commands of the repository manager.
 #![tactic(auto)]
 
-mod arguments;
 mod build;
-mod command;
 mod commands;
 mod demo;
 mod fault;
-mod flags;
 mod laws;
 mod list;
 mod piece;
 mod read;
-mod table;
 mod words;
 
-pub use command::{Command, Follow, Origin};
+pub use command_table::{Command, Follow, Origin};
 pub use commands::read_words;
 pub use fault::WordFault;
 pub use laws::{fronts_complete, one_usage_place};

@@ -1,19 +1,16 @@
 //! One command, read from its words.
 ghost use Rattle.std.specs.Prelude.{◌≡◌, ◌+◌, ◌<◌, ◌≤◌, Some, IfOk, IfErr, length, if◌then◌else◌};
-ghost use Rattle.command_words.specs.Arguments.{Judges};
+ghost use Rattle.command_table.specs.Arguments.{Judges};
 ghost use Rattle.command_words.specs.Spelled.{flags_of, arguments_of, mark_len, after_flags, row_begins, row_ends, row_spells, spelled};
-ghost use Rattle.command_words.specs.Table.{rule, table};
+ghost use Rattle.command_table.specs.Table.{rule, table};
 ghost use Rattle.command_words.specs.Fault.{IsAt, IsRowFault, IsCommandFault};
-ghost use Rattle.command_words.specs.Plain.{plain};
+ghost use Rattle.command_table.specs.Plain.{plain};
 ghost use Rattle.std.specs.List.{list_any};
 ghost use Rattle.std.specs.Str.{bytes_eq};
 
-use crate::arguments::arguments_fault;
 use crate::build::{command_of, components_len};
-use crate::command::Command;
 use crate::fault::WordFault;
-use crate::flags::{flags_len, standing_flags};
-use crate::table::{Row, find_row, is_group};
+use command_table::{Command, Row, arguments_fault, find_row, flags_len, is_group, standing_flags};
 use control_stanza::Text;
 use std::alloc::{AllocError, Global};
 

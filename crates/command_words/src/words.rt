@@ -1,6 +1,7 @@
 //! The words of a command line.
-ghost use Rattle.std.specs.Prelude.{◌≡◌, [], ◌∷◌, ◌++◌, OnOk, OnErr};
+ghost use Rattle.std.specs.Prelude.{◌≡◌, [], ◌∷◌, ◌++◌, IfOk, OnOk, OnErr};
 
+use command_table::copies;
 use control_stanza::Text;
 use std::alloc::{AllocError, Global};
 use std::marker::Model;
@@ -45,5 +46,14 @@ impl Words {
         ensures { result.now ≡ self.now }
     {
         self.words.as_slice()
+    }
+
+    /// The same words once more. Fails only for want of memory.
+    pub fn copy(&self, alloc: Global) -> Result<Words, AllocError>
+        ensures { IfOk result (λ made. made ≡ self.now) }
+    {
+        Ok(Words {
+            words: copies(alloc, self.words.as_slice())?,
+        })
     }
 }

@@ -4,8 +4,8 @@ use Rattle.std.specs.Result.{IfOk, IfErr, IsErrAnd}
 use Rattle.std.specs.Option.{is_some}
 use Rattle.std.specs.Bool.{nat_le, if◌then◌else◌}
 use Rattle.std.proofs.lemmas.List.Edits.{length-insert}
-use Rattle.command_words.specs.declared.command.Command.{Command}
-use Rattle.command_words.specs.declared.command.Command.TheVariants as commands
+use Rattle.command_table.specs.declared.command.Command.{Command}
+use Rattle.command_table.specs.declared.command.Command.TheVariants as commands
 use Rattle.command_words.specs.Plain.{PlainCommand, plain, repo_create, repo_add, repo_show}
 use Rattle.machine_state.specs.declared.limit.Limit.TheVariants as limits
 use Rattle.machine_state.specs.declared.change.Change.{Change}

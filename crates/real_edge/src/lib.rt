@@ -9,6 +9,3 @@ mod store;
 
 pub use folder_host::FolderHost;
 pub use folder_inbox::FolderInbox;
-
-#[cfg(test)]
-mod tests;

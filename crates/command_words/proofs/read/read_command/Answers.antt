@@ -1,6 +1,6 @@
 use Rattle.std.proofs.Common.{◌∙◌, ap, ◌-◌, length, take, drop, arith}
 use Rattle.std.specs.List.{find}
-use Rattle.command_words.specs.Table.{rule, table, has_key}
+use Rattle.command_table.specs.Table.{rule, table, has_key}
 use Rattle.command_words.proofs.Lifted.{two_words, fault_to_command}
 use Rattle.command_words.proofs.read.read_command.Goals as goal
 

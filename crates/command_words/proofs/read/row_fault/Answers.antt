@@ -1,5 +1,5 @@
 use Rattle.std.proofs.Common.{Some, None}
-use Rattle.command_words.specs.Table.{rule}
+use Rattle.command_table.specs.Table.{rule}
 use Rattle.command_words.proofs.Fronts.{flags_fault_at, all_stand_at, judged, arguments_fault_at, nothing_wrong, row_ends_at}
 use Rattle.command_words.proofs.read.row_fault.Goals as goal
 

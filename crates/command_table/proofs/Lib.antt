@@ -1,0 +1,4 @@
+pub mod Rows
+pub mod Dashes
+pub mod Different
+pub mod Standing
