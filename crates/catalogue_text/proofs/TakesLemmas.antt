@@ -180,7 +180,7 @@ IsClosed text = (front : List ℕ) × (text ≡ front ++ 10 ∷ [])
 pub package_closed : (p : Card) → IsClosed (package_text p)
 unfolding package_text file_text
 package_closed p =
-    closed_append (stanza_text p.stanza) (file_text p)
+    closed_append (stanza_text p.stanza) (file_text p.file p.said)
     (closed_append (line (codes "Filename") p.file ++ line (codes "Size") (decimal p.said.size) ++ line (codes "MD5sum") (encode_lower (unwrap_or p.said.md5 [])) ++ line (codes "SHA1") (encode_lower (unwrap_or p.said.sha1 [])))
     (line (codes "SHA256") (encode_lower p.said.sha256)) (codes "SHA256" ++ 58 ∷ 32 ∷ encode_lower p.said.sha256, refl))
   where

@@ -58,3 +58,12 @@ impl Said {
         *self
     }
 }
+
+impl What {
+    /// The same fact once more.
+    pub fn copy(&self) -> What
+        ensures { result ≡ self.now }
+    {
+        *self
+    }
+}

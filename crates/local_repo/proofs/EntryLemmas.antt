@@ -8,14 +8,16 @@ use Rattle.std.proofs.lemmas.Bool.{and_parts, or_parts}
 use Rattle.hex.specs.declared.error.FromHexError.{FromHexError}
 use Rattle.hex.specs.Hex.{decode_sized}
 use Rattle.hex.proofs.HexLemmas.{decode_of-ok, decode_sized-ok, decode_sized-twice}
+use Rattle.ap_text.specs.Decimals.{is_number}
 use Rattle.ap_text.specs.Paths.{segments}
+use Rattle.ap_text.proofs.DecimalLemmas.{number_is_decimal}
 use Rattle.control_stanza.specs.declared.stanza.Field.{Field}
 use Rattle.control_stanza.specs.Fields.{is_stanza, value_of, without_name}
 use Rattle.control_stanza.proofs.FieldLemmas.{stanza_without}
 use Rattle.package_core.specs.declared.fault.Required.{Required}
 use Rattle.package_core.specs.declared.fault.Required.TheVariants.{NameField, VersionField, ArchitectureField, FilenameField, SizeField, Sha256Field}
 use Rattle.package_core.specs.declared.fault.PackageFault.TheVariants.{Missing, BadNumber, BadDigest}
-use Rattle.package_core.specs.Fields.{digest, is_decimal, is_digest, is_number, is_other, last_of, last_segment, own_fields, text_in}
+use Rattle.package_core.specs.Fields.{digest, is_digest, is_other, last_of, last_segment, own_fields, text_in}
 use Rattle.package_core.specs.Faults.{bad_identity, bad_path, bad_said, fault_of, first_missing, has_other_digest}
 use Rattle.package_core.specs.Card.{card_of, path_in, said_in}
 use Rattle.package_core.specs.Whole.{IsDigest, IsSaid}
@@ -142,9 +144,8 @@ said_good fields n h =
     let both = or_parts (is_other (is_digest 32) (value_of fields (codes "SHA256")) || is_other (is_digest 20) (value_of fields (codes "SHA1"))) (is_other (is_digest 16) (value_of fields (codes "MD5sum"))) b.0 in
     let c = or_parts (is_other (is_digest 32) (value_of fields (codes "SHA256"))) (is_other (is_digest 20) (value_of fields (codes "SHA1"))) both.0 in
     let number = is_good is_number _ _ n.size a.0 in
-    let small = (and_parts (is_decimal (text_in fields (codes "Size"))) (nat_lt (digits_value 10 (text_in fields (codes "Size"))) (2 ^ 64)) number).1 in
     record {
-      size = ltb-true (digits_value 10 (text_in fields (codes "Size"))) (2 ^ 64) small;
+      size = (number_is_decimal (text_in fields (codes "Size")) number).0;
       sha256 = some_digest 32 (text_in fields (codes "SHA256")) (is_good (is_digest 32) _ _ n.sha256 c.0);
       sha1 = perhaps_digest 20 (value_of fields (codes "SHA1"));
       md5 = perhaps_digest 16 (value_of fields (codes "MD5sum"));

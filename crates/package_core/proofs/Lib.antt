@@ -1,6 +1,6 @@
 pub mod PathLemmas
 pub mod SourceLemmas
-pub mod NumberLemmas
+pub mod SourceReading
 pub mod OwnLemmas
 pub mod TextLemmas
 pub mod PackageLemmas
@@ -8,4 +8,6 @@ pub mod StanzaLaws
 pub mod OrderLaws
 pub mod PlainLemmas
 pub mod ReadBack
+pub mod PieceLemmas
+pub mod SizeLemmas
 pub mod WholeLemmas

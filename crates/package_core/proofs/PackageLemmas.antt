@@ -6,7 +6,7 @@ use Rattle.std.specs.Str.{bytes_eq}
 use Rattle.std.specs.Option.{option_map, option_or}
 use Rattle.std.specs.Result.{IfOk}
 use Rattle.std.proofs.lemmas.List.Elements.{filter_agree}
-use Rattle.ap_text.specs.Names.{is_package_name}
+use Rattle.ap_text.specs.Names.{is_package_name, is_architecture}
 use Rattle.ap_text.specs.Paths.{is_safe_path, segments}
 use Rattle.control_stanza.specs.declared.stanza.Field.{Field}
 use Rattle.control_stanza.specs.Fields.{same_name, value_of, is_stanza}
@@ -16,8 +16,8 @@ use Rattle.package_core.specs.declared.fault.Required.{Required}
 use Rattle.package_core.specs.declared.fault.Required.TheVariants.{NameField, VersionField, ArchitectureField, FilenameField}
 use Rattle.package_core.specs.declared.fault.PackageFault.{PackageFault}
 use Rattle.package_core.specs.declared.fault.PackageFault.TheVariants.{Missing, BadName, BadVersion, BadArchitecture, BadSource, BadPath}
-use Rattle.package_core.specs.Source.{is_source}
-use Rattle.package_core.specs.Fields.{text_in, is_other, is_of_file, own_fields, is_architecture, is_file_path, without_dots, last_segment}
+use Rattle.package_core.specs.SourceParts.{is_source}
+use Rattle.package_core.specs.Fields.{text_in, is_other, is_of_file, own_fields, is_file_path, without_dots, last_segment}
 use Rattle.package_core.specs.Faults.{first_missing, bad_identity, bad_path, bad_said, fault_of}
 use Rattle.package_core.specs.Card.{IsPackage, card_of, path_in}
 use Rattle.std.proofs.lemmas.Bool.Decides.{nat_tests}
@@ -25,23 +25,23 @@ use Rattle.package_core.proofs.OwnLemmas.{filter-filter}
 use Rattle.package_core.proofs.PathLemmas.{last_is_safe}
 
 -- ---- what has no fault
-both_none : {X : Type 0} (a b : Option X) → option_or a b ≡ None → (a ≡ None) × (b ≡ None)
+pub both_none : {X : Type 0} (a b : Option X) → option_or a b ≡ None → (a ≡ None) × (b ≡ None)
 both_none None b h = (refl, h)
 both_none (Some x) b h = cc
 
-none_missing : (m : Option Required) → option_map Missing m ≡ None → m ≡ None
+pub none_missing : (m : Option Required) → option_map Missing m ≡ None → m ≡ None
 none_missing None h = refl
 none_missing (Some r) h = cc
 
-not_first : {X : Type 0} (b : Bool) (x : X) (o : Option X) → cond b (Some x) o ≡ None → (b ≡ false) × (o ≡ None)
+pub not_first : {X : Type 0} (b : Bool) (x : X) (o : Option X) → cond b (Some x) o ≡ None → (b ≡ false) × (o ≡ None)
 not_first true x o h = cc
 not_first false x o h = (refl, h)
 
-is_there : (o : Option (List ℕ)) → is_none o ≡ false → o ≡ Some (unwrap_or o [])
+pub is_there : (o : Option (List ℕ)) → is_none o ≡ false → o ≡ Some (unwrap_or o [])
 is_there None h = cc
 is_there (Some t) h = refl
 
-is_good : (good : List ℕ → Bool) (o : Option (List ℕ)) (t : List ℕ) → o ≡ Some t → is_other good o ≡ false → good t ≡ true
+pub is_good : (good : List ℕ → Bool) (o : Option (List ℕ)) (t : List ℕ) → o ≡ Some t → is_other good o ≡ false → good t ≡ true
 is_good good o t e h = held (good t) (ap (is_other good) (sym e) ∙ h)
   where
     held : (b : Bool) → not b ≡ false → b ≡ true

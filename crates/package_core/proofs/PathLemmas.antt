@@ -1,13 +1,13 @@
 -- The path of a file without dots in front, and the last of its segments.
-use Rattle.std.proofs.Common.{◌≡◌, ℕ, ◌+◌, ◌<◌, ◌≤◌, Bool, true, false, not, ◌&&◌, ◌==◌, cond, leb, inl, inr, List, [], ◌∷◌, length, drop, Option, Some, None, refl, ap, sym, ◌∙◌, arith}
-use Rattle.std.specs.List.{list_all, position_or_len, before_first, after_first}
+use Rattle.std.proofs.Common.{◌≡◌, ℕ, ◌+◌, ◌<◌, ◌≤◌, Bool, true, false, not, ◌&&◌, ◌==◌, cond, leb, inl, inr, List, [], ◌∷◌, length, drop, Option, Some, None, refl, ap, sym, ◌∙◌, subst, arith}
+use Rattle.std.specs.List.{list_all, onto_first, position_or_len, before_first, after_first}
 use Rattle.std.specs.Option.{MatchOption}
 use Rattle.std.specs.Str.Pattern.{StripsPrefix, FindsTextPrefix}
 use Rattle.std.proofs.lemmas.Bool.Decides.{nat_tests}
 use Rattle.std.proofs.lemmas.List.{length-drop}
 use Rattle.std.proofs.lemmas.List.Splits.{slice_split_first, slice_split_none}
 use Rattle.std.proofs.lemmas.List.Sums.{fails_before_first, prefix_len-le-length}
-use Rattle.std.proofs.lemmas.Bool.{cases_lt, le-leb, ltb-false}
+use Rattle.std.proofs.lemmas.Bool.{and_parts, cases_lt, le-leb, ltb-false}
 use Rattle.std.proofs.lemmas.Str.Pattern.{split_once_first, IsSplitOnceResult}
 use denote.Ref.{Bor}
 use Rattle.ap_text.specs.Paths.{segments, is_segment, is_long_segment, is_no_entry, is_path_byte, is_safe_path}
@@ -96,3 +96,52 @@ short_and_safe name good one =
 pub last_is_safe : (path name : List ℕ) → is_safe_path path ≡ true → name ≡ last_segment path → segments name ≡ name ∷ [] → is_safe_path name ≡ true
 last_is_safe path name safe last one =
     short_and_safe name (ap is_segment last ∙ last_is_segment (segments path) (some_segment path) (second (leb (length path) 1000) (list_all is_segment (segments path)) safe)) one
+
+-- ---- safe paths
+second_of : (a b c : Bool) → (a && b && c) ≡ true → c ≡ true
+second_of a b c h = second (a && b) c h
+
+visible_onto : (b : ℕ) (ss : List (List ℕ)) → (ss ≡ [] → ⊥) → list_all (list_all is_path_byte) (onto_first b ss) ≡ true → (is_path_byte b ≡ true) × (list_all (list_all is_path_byte) ss ≡ true)
+visible_onto b [] some h = absurd (some refl)
+visible_onto b (s ∷ ss) some h =
+    let outer = and_parts (is_path_byte b && list_all is_path_byte s) (list_all (list_all is_path_byte) ss) h in
+    let inner = and_parts (is_path_byte b) (list_all is_path_byte s) outer.0 in
+    (inner.0, and_true (list_all is_path_byte s) (list_all (list_all is_path_byte) ss) inner.1 outer.1)
+
+-- visible segments are those of a visible text
+visible_from_segments : (text : List ℕ) → list_all (list_all is_path_byte) (segments text) ≡ true → list_all is_path_byte text ≡ true
+visible_from_segments [] h = refl
+visible_from_segments (b ∷ bs) h = by_test (b == 47) refl (visible_from_segments bs) h
+  where
+    slash_is : (b == 47) ≡ true → is_path_byte b ≡ true
+    slash_is h = grind (arith, nat_tests)
+
+    by_test : (t : Bool) → (b == 47) ≡ t → (list_all (list_all is_path_byte) (segments bs) ≡ true → list_all is_path_byte bs ≡ true) → list_all (list_all is_path_byte) (cond t ([] ∷ segments bs) (onto_first b (segments bs))) ≡ true → (is_path_byte b && list_all is_path_byte bs) ≡ true
+    by_test true e more h = and_true (is_path_byte b) (list_all is_path_byte bs) (slash_is e) (more h)
+    by_test false e more h =
+        let parts = visible_onto b (segments bs) (some_segment bs) h in
+        and_true (is_path_byte b) (list_all is_path_byte bs) parts.0 (more parts.1)
+
+segments_visible : (ss : List (List ℕ)) → list_all is_segment ss ≡ true → list_all (list_all is_path_byte) ss ≡ true
+segments_visible [] h = refl
+segments_visible (s ∷ ss) h =
+    let parts = all_first s ss h in
+    and_true (list_all is_path_byte s) (list_all (list_all is_path_byte) ss) (second_of (not (is_long_segment s)) (not (is_no_entry s)) (list_all is_path_byte s) parts.0) (segments_visible ss parts.1)
+
+safe_segments : (path : List ℕ) → is_safe_path path ≡ true → list_all is_segment (segments path) ≡ true
+safe_segments path h = second (leb (length path) 1000) (list_all is_segment (segments path)) h
+
+some_bytes : (path : List ℕ) → list_all is_segment (segments path) ≡ true → 0 < length path
+some_bytes [] h = cc
+some_bytes (b ∷ bs) h = omega arith
+
+-- a safe path is one visible byte or more
+pub safe_is_plain : (path : List ℕ) → is_safe_path path ≡ true → (0 < length path) × (list_all is_path_byte path ≡ true)
+safe_is_plain path h = (some_bytes path (safe_segments path h), visible_from_segments path (segments_visible (segments path) (safe_segments path h)))
+
+-- and has no `./` in front
+pub undotted : (path : List ℕ) → is_safe_path path ≡ true → without_dots path ≡ path
+undotted path h = no_dots path (λ more e. dotted more (subst (λ (t : List ℕ). list_all is_segment (segments t) ≡ true) e (safe_segments path h)))
+  where
+    dotted : (more : List ℕ) → list_all is_segment (segments (46 ∷ 47 ∷ more)) ≡ true → ⊥
+    dotted more h = cc

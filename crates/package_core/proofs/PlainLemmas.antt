@@ -1,23 +1,21 @@
 -- Values of one line: visible bytes.
-use Rattle.std.proofs.Common.{◌≡◌, ℕ, suc, zero, ◌+◌, ◌/◌, ◌%◌, ◌<◌, ◌≤◌, ◌^◌, Bool, true, false, not, ◌&&◌, ◌||◌, ◌==◌, leb, nat_eq, nat_lt, List, [], ◌∷◌, ◌++◌, length, slice_index, Some, refl, ap, sym, ◌∙◌, arith}
+use Rattle.std.proofs.Common.{◌≡◌, ℕ, suc, zero, ◌+◌, ◌/◌, ◌%◌, ◌<◌, ◌≤◌, ◌^◌, Bool, true, false, not, ◌&&◌, ◌==◌, List, [], ◌∷◌, ◌++◌, length, slice_index, Some, refl, ap, sym, ◌∙◌, arith}
 use Rattle.std.specs.List.{list_all}
 use Rattle.std.specs.Str.{IsAscii, is_utf8}
-use Rattle.std.specs.Str.Parse.{digits_value}
 use Rattle.std.specs.Fmt.{decimal}
-use Rattle.std.proofs.lemmas.Bool.{and_parts, and_from, le-leb, lt-ltb}
+use Rattle.std.proofs.lemmas.Bool.{and_parts, and_from}
 use Rattle.std.proofs.lemmas.Bool.Decides.{nat_tests}
 use Rattle.std.proofs.lemmas.Str.{IsUtf8-from_ascii, is_utf8-from_IsUtf8}
 use Rattle.std.specs.Result.{result_ok}
 use Rattle.std.proofs.lemmas.List.Folds.{list_all-append, list_all_at}
-use Rattle.std.proofs.lemmas.Fmt.{decimal_by_steps, decimal_digit, decimal_is_IsNumeral, first_decimal}
+use Rattle.std.proofs.lemmas.Fmt.{decimal_by_steps, decimal_nonempty}
 use Rattle.hex.specs.Hex.{IsBytes, encode_lower, encode_with, lower_digits}
 use Rattle.hex.proofs.HexLemmas.{decode_of-encode_lower, decode_sized-twice, length-encode_with}
 use Rattle.ap_text.specs.Paths.{is_path_byte}
 use Rattle.control_stanza.specs.Lines.{begun, is_blank, starts_blank, ends_blank, has_return}
 use Rattle.control_stanza.specs.Fields.{value_lines, is_first_line, are_value_lines, is_value}
 use Rattle.control_stanza.specs.Written.{gap}
-use Rattle.deb_version.specs.Cuts.{is_digit}
-use Rattle.package_core.specs.Fields.{digest, is_decimal, is_number}
+use Rattle.package_core.specs.Fields.{digest}
 use Rattle.package_core.specs.Whole.{IsDigest}
 
 -- some visible bytes
@@ -47,7 +45,7 @@ no_return (c ∷ cs) h =
     let p = and_parts (is_path_byte c) (list_all is_path_byte cs) h in
     rw (plain_byte c p.0).no_return (no_return cs p.1)
 
-ascii : (text : List ℕ) → list_all is_path_byte text ≡ true → IsAscii text
+pub ascii : (text : List ℕ) → list_all is_path_byte text ≡ true → IsAscii text
 ascii [] h = λ i. omega arith
 ascii (c ∷ cs) h =
     let p = and_parts (is_path_byte c) (list_all is_path_byte cs) h in
@@ -85,58 +83,22 @@ plain_gap [] h = absurd (omega (arith, h.some))
 plain_gap (c ∷ cs) h = rw (plain_byte c (and_parts (is_path_byte c) (list_all is_path_byte cs) h.visible).0).no_end refl
 
 -- ---- numbers
-record IsDigitsText (n : ℕ) (text : List ℕ) : Type 0 where
-  visible : list_all is_path_byte text ≡ true
-  digits : list_all is_digit text ≡ true
 
 digit_visible : (d : ℕ) → d < 10 → is_path_byte (48 + d) ≡ true
 digit_visible d h = grind (arith, nat_tests)
 
-digit_is : (d : ℕ) → d < 10 → is_digit (48 + d) ≡ true
-unfolding is_digit
-digit_is d h = grind (arith, nat_tests)
+one_digit : (n : ℕ) → n < 10 → list_all is_path_byte ((48 + n) ∷ []) ≡ true
+one_digit n h = and_from (is_path_byte (48 + n)) true (digit_visible n h) refl
 
-one_digit : (n : ℕ) → n < 10 → IsDigitsText n ((48 + n) ∷ [])
-one_digit n h = record {
-  visible = and_from (is_path_byte (48 + n)) true (digit_visible n h) refl;
-  digits = and_from (is_digit (48 + n)) true (digit_is n h) refl;
-}
+more_digits : (n : ℕ) (ds : List ℕ) → 10 ≤ n → list_all is_path_byte ds ≡ true → list_all is_path_byte (ds ++ ((48 + n % 10) ∷ [])) ≡ true
+more_digits n ds h is = list_all-append is_path_byte ds ((48 + n % 10) ∷ []) ∙ and_from _ _ is (one_digit (n % 10) (omega arith))
 
-more_digits : (n : ℕ) (ds : List ℕ) → 10 ≤ n → IsDigitsText (n / 10) ds → IsDigitsText n (ds ++ ((48 + n % 10) ∷ []))
-more_digits n ds h is = record {
-  visible = list_all-append is_path_byte ds ((48 + n % 10) ∷ []) ∙ and_from _ _ is.visible (and_from (is_path_byte (48 + n % 10)) true (digit_visible (n % 10) (omega arith)) refl);
-  digits = list_all-append is_digit ds ((48 + n % 10) ∷ []) ∙ and_from _ _ is.digits (and_from (is_digit (48 + n % 10)) true (digit_is (n % 10) (omega arith)) refl);
-}
-
-digits_text : (n : ℕ) → n < 2 ^ 64 → IsDigitsText n (decimal n)
-digits_text n h = decimal_by_steps IsDigitsText one_digit more_digits n h
+pub number_visible : (n : ℕ) → n < 2 ^ 64 → list_all is_path_byte (decimal n) ≡ true
+number_visible n h = decimal_by_steps (λ n text. list_all is_path_byte text ≡ true) one_digit more_digits n h
 
 -- what a number is written as is plain
 pub plain_number : (n : ℕ) → n < 2 ^ 64 → IsPlainText (decimal n)
-plain_number n h = record { some = (decimal_is_IsNumeral n h).0.0; visible = (digits_text n h).visible }
-
-no_zero_first : (n : ℕ) → n < 2 ^ 64 → (nat_eq (length (decimal n)) 1 || not (slice_index (decimal n) 0 == 48)) ≡ true
-no_zero_first zero h = ap (λ (ds : List ℕ). nat_eq (length ds) 1 || not (slice_index ds 0 == 48)) (decimal_digit 0 (omega arith))
-no_zero_first (suc n) h = large (nat_eq (length (decimal (suc n))) 1) (slice_index (decimal (suc n)) 0) (first_decimal (suc n) (omega arith) h)
-  where
-    large : (b : Bool) (d : ℕ) → 48 < d → (b || not (d == 48)) ≡ true
-    large b d h = grind (arith, nat_tests)
-
-decimal_is : (n : ℕ) → n < 2 ^ 64 → is_decimal (decimal n) ≡ true
-unfolding is_decimal
-decimal_is n h =
-    and_from (leb 1 (length (decimal n)) && list_all is_digit (decimal n)) _
-    (and_from (leb 1 (length (decimal n))) (list_all is_digit (decimal n)) (le-leb 1 (length (decimal n)) (decimal_is_IsNumeral n h).0.0) (digits_text n h).digits)
-    (no_zero_first n h)
-
--- what a number is written as is read as that number
-pub number_is : (n : ℕ) → n < 2 ^ 64 → is_number (decimal n) ≡ true
-number_is n h =
-    let value = (decimal_is_IsNumeral n h).1 in
-    and_from (is_decimal (decimal n)) (nat_lt (digits_value 10 (decimal n)) (2 ^ 64)) (decimal_is n h) (lt-ltb _ _ (omega (arith, value)))
-
-pub number_value : (n : ℕ) → n < 2 ^ 64 → digits_value 10 (decimal n) ≡ n
-number_value n h = (decimal_is_IsNumeral n h).1
+plain_number n h = record { some = decimal_nonempty n h; visible = number_visible n h }
 
 -- ---- digests
 passes : (p : ℕ → Bool) (xs : List ℕ) (i : ℕ) → list_all p xs ≡ true → i < length xs → p (slice_index xs i) ≡ true
@@ -149,7 +111,7 @@ passes p xs i all lt = by_test (p (slice_index xs i)) refl
 hex_digit_visible : (d : ℕ) → d < 16 → is_path_byte (slice_index lower_digits d) ≡ true
 hex_digit_visible d h = passes is_path_byte lower_digits d refl h
 
-hex_visible : (bytes : List ℕ) → IsBytes bytes → list_all is_path_byte (encode_lower bytes) ≡ true
+pub hex_visible : (bytes : List ℕ) → IsBytes bytes → list_all is_path_byte (encode_lower bytes) ≡ true
 unfolding encode_with
 hex_visible [] h = refl
 hex_visible (b ∷ bs) h =

@@ -9,7 +9,8 @@ use Rattle.std.proofs.lemmas.List.Folds.{length-prefix_len}
 use Rattle.std.proofs.lemmas.List.Sums.{prefix_len_passes, prefix_len-le-length}
 use Rattle.std.proofs.lemmas.Str.Pattern.{IsSplitOnceResult, split_once_first}
 use denote.Ref.{Bor}
-use Rattle.package_core.specs.Source.{is_gap, is_opening, gaps_before, gaps_behind, before_closing, named, parts_at, source_parts}
+use Rattle.package_core.specs.Source.{is_gap}
+use Rattle.package_core.specs.SourceParts.{is_opening, gaps_before, gaps_behind, before_closing, named, parts_at, source_parts}
 
 gap_small : (c : ℕ) → is_gap c ≡ true → c < 128
 gap_small c h = grind (arith, nat_tests)

@@ -4,7 +4,7 @@ use Rattle.std.specs.Option.{option_and_then}
 use Rattle.std.specs.Fmt.{decimal}
 use Rattle.std.specs.Str.Parse.{digits_value}
 use Rattle.hex.specs.Hex.{encode_lower}
-use Rattle.ap_text.specs.Names.{is_package_name}
+use Rattle.ap_text.specs.Names.{is_package_name, is_architecture}
 use Rattle.ap_text.specs.Paths.{is_safe_path, segments}
 use Rattle.control_stanza.specs.declared.stanza.Field.{Field}
 use Rattle.control_stanza.specs.Fields.{is_stanza, value_of}
@@ -13,8 +13,8 @@ use Rattle.deb_version.specs.VersionText.{is_version}
 use Rattle.digest_set.specs.declared.facts.Said.{Said}
 use Rattle.digest_set.specs.declared.facts.Digests.{Digests}
 use Rattle.package_core.specs.declared.package.Package.{Package}
-use Rattle.package_core.specs.Source.{is_source, source_parts}
-use Rattle.package_core.specs.Fields.{text_in, is_other, own_fields, is_architecture, without_dots, last_segment, digest}
+use Rattle.package_core.specs.SourceParts.{is_source, source_parts}
+use Rattle.package_core.specs.Fields.{text_in, is_other, own_fields, without_dots, last_segment, digest}
 
 -- what contracts see of a package
 abbrev pub Card : Type 0
@@ -86,14 +86,14 @@ triple p = p.name ++ 95 ∷ (p.version ++ 95 ∷ p.arch)
 abbrev pub line : List ℕ → List ℕ → List ℕ
 line name value = name ++ 58 ∷ 32 ∷ (value ++ 10 ∷ [])
 
--- What is known of the file of a complete package. Of another one the lines of the missing digests are without digits.
-unfoldable pub file_text : Card → List ℕ
-file_text p =
-    line (codes "Filename") p.file ++ line (codes "Size") (decimal p.said.size)
-    ++ line (codes "MD5sum") (encode_lower (unwrap_or p.said.md5 []))
-    ++ line (codes "SHA1") (encode_lower (unwrap_or p.said.sha1 []))
-    ++ line (codes "SHA256") (encode_lower p.said.sha256)
+-- What is known of a file at a path. Where a digest is missing its line is without digits.
+unfoldable pub file_text : List ℕ → Said → List ℕ
+file_text path said =
+    line (codes "Filename") path ++ line (codes "Size") (decimal said.size)
+    ++ line (codes "MD5sum") (encode_lower (unwrap_or said.md5 []))
+    ++ line (codes "SHA1") (encode_lower (unwrap_or said.sha1 []))
+    ++ line (codes "SHA256") (encode_lower said.sha256)
 
--- The text of a complete package: its stanza, then what is known of its file.
+-- The text of a complete package: its stanza, then what is known of its file, by its name.
 unfoldable pub package_text : Card → List ℕ
-package_text p = stanza_text p.stanza ++ file_text p
+package_text p = stanza_text p.stanza ++ file_text p.file p.said

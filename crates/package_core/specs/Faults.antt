@@ -4,14 +4,15 @@ use Rattle.std.specs.List.{find}
 use Rattle.std.specs.Option.{option_map, option_or}
 use Rattle.control_stanza.specs.declared.stanza.Field.{Field}
 use Rattle.control_stanza.specs.Fields.{value_of}
-use Rattle.ap_text.specs.Names.{is_package_name}
+use Rattle.ap_text.specs.Decimals.{is_number}
+use Rattle.ap_text.specs.Names.{is_package_name, is_architecture}
 use Rattle.deb_version.specs.VersionText.{is_version}
 use Rattle.package_core.specs.declared.fault.Required.{Required}
 use Rattle.package_core.specs.declared.fault.Required.TheVariants.{NameField, VersionField, ArchitectureField, FilenameField, SizeField, Sha256Field}
 use Rattle.package_core.specs.declared.fault.PackageFault.{PackageFault}
 use Rattle.package_core.specs.declared.fault.PackageFault.TheVariants.{Missing, BadName, BadVersion, BadArchitecture, BadSource, BadPath, BadNumber, BadDigest, OutOfMemory}
-use Rattle.package_core.specs.Source.{is_source}
-use Rattle.package_core.specs.Fields.{is_other, is_architecture, without_dots, is_file_path, is_number, is_digest}
+use Rattle.package_core.specs.SourceParts.{is_source}
+use Rattle.package_core.specs.Fields.{is_other, without_dots, is_file_path, is_digest}
 
 -- what a required field is called
 abbrev pub field_name : Required → List ℕ

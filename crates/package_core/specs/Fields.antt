@@ -1,14 +1,10 @@
 -- What the fields of a binary stanza are (Debian Policy 5.3; the Packages index of the Debian repository format).
-use Rattle.std.specs.Prelude.{ℕ, ◌^◌, Bool, false, not, ◌&&◌, ◌||◌, ◌==◌, nat_lt, nat_le, nat_eq, List, [], ◌∷◌, length, filter, codes, bytes_eq, Option, Some, None, is_some, unwrap_or, slice_index, if◌then◌else◌}
-use Rattle.std.specs.List.{list_all}
+use Rattle.std.specs.Prelude.{ℕ, Bool, false, not, ◌&&◌, ◌||◌, ◌==◌, nat_le, List, [], ◌∷◌, length, filter, codes, Option, Some, None, is_some, unwrap_or, if◌then◌else◌}
 use Rattle.std.specs.Result.{result_ok}
-use Rattle.std.specs.Str.Parse.{digits_value}
 use Rattle.hex.specs.Hex.{decode_sized}
-use Rattle.ap_text.specs.Names.{is_name}
 use Rattle.ap_text.specs.Paths.{is_safe_path, segments}
 use Rattle.control_stanza.specs.declared.stanza.Field.{Field}
 use Rattle.control_stanza.specs.Fields.{same_name, value_of}
-use Rattle.deb_version.specs.Cuts.{is_digit}
 
 -- the value of a field, nothing where it isn't there
 abbrev pub text_in : List Field → List ℕ → List ℕ
@@ -29,10 +25,6 @@ is_of_file name =
 unfoldable pub own_fields : List Field → List Field
 own_fields fields = filter (λ f. not (is_of_file f.name)) fields
 
--- an architecture: a name other than `source` (Debian Policy 5.6.8)
-abbrev pub is_architecture : List ℕ → Bool
-is_architecture text = is_name text && not (bytes_eq text (codes "source"))
-
 -- without `./` in front, as often as it stands there
 abbrev pub without_dots : List ℕ → List ℕ
 without_dots [] = []
@@ -51,14 +43,6 @@ last_of (s ∷ t ∷ ss) = last_of (t ∷ ss)
 
 abbrev pub last_segment : List ℕ → List ℕ
 last_segment path = last_of (segments path)
-
--- one or more decimal digits, of which more than one don't begin with 0
-unfoldable pub is_decimal : List ℕ → Bool
-is_decimal text = nat_lt 0 (length text) && list_all is_digit text && (nat_eq (length text) 1 || not (slice_index text 0 == 48))
-
--- such digits, of a value below 2^64
-abbrev pub is_number : List ℕ → Bool
-is_number text = is_decimal text && nat_lt (digits_value 10 text) (2 ^ 64)
 
 -- the bytes that so many pairs of hexadecimal digits, of either case, stand for
 abbrev pub digest : ℕ → List ℕ → Option (List ℕ)

@@ -1,4 +1,5 @@
 pub mod Source
+pub mod SourceParts
 pub mod Fields
 pub mod Faults
 pub mod Answers

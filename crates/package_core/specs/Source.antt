@@ -1,7 +1,6 @@
--- The value of a field Source: `name` or `name (version)` (Debian Policy 5.6.1).
-use Rattle.std.specs.Prelude.{ℕ, ◌+◌, ◌-◌, Bool, false, ◌&&◌, ◌||◌, ◌==◌, List, [], ◌∷◌, length, take, drop, reverse, position, Option, Some, None, if◌then◌else◌}
-use Rattle.std.specs.List.{take_while}
-use Rattle.std.specs.Option.{option_map}
+-- The value of a field Source (Debian Policy 5.6.1): the name of a source, and maybe its version in parentheses.
+use Rattle.std.specs.Prelude.{◌≡◌, ℕ, Bool, ◌||◌, ◌==◌, List, [], ◌∷◌, ◌++◌, IsTrue, Option, Some, None}
+use Rattle.std.specs.List.{list_all}
 use Rattle.ap_text.specs.Names.{is_package_name}
 use Rattle.deb_version.specs.VersionText.{is_version}
 
@@ -9,47 +8,20 @@ use Rattle.deb_version.specs.VersionText.{is_version}
 abbrev pub is_gap : ℕ → Bool
 is_gap c = c == 32 || c == 9 || c == 10
 
-abbrev pub is_opening : ℕ → Bool
-is_opening c = c == 40
+-- none or more of them
+abbrev pub AreGaps : List ℕ → Type 0
+AreGaps text = IsTrue (list_all is_gap text)
 
--- how many gaps stand in front
-abbrev pub gaps_before : List ℕ → ℕ
-gaps_before text = length (take_while is_gap text)
+-- a name and, in parentheses, a version, with gaps before and inside the parentheses
+pub record HasVersion (text name version : List ℕ) : Type 0 where
+  pub before : List ℕ
+  pub inside : List ℕ
+  pub behind : List ℕ
+  pub is : text ≡ name ++ (before ++ 40 ∷ (inside ++ (version ++ (behind ++ 41 ∷ []))))
+  pub gaps : AreGaps before × AreGaps inside × AreGaps behind
+  pub version_is : IsTrue (is_version version)
 
--- how many stand at the end
-abbrev pub gaps_behind : List ℕ → ℕ
-gaps_behind text = length (take_while is_gap (reverse text))
-
-abbrev pub without_gaps_before : List ℕ → List ℕ
-without_gaps_before text = drop (gaps_before text) text
-
-abbrev pub without_gaps_behind : List ℕ → List ℕ
-without_gaps_behind text = take (length text - gaps_behind text) text
-
--- what stands before the `)` that ends a text
-abbrev pub before_closing : List ℕ → Option (List ℕ)
-before_closing [] = None
-before_closing (c ∷ []) = if c == 41 then Some [] else None
-before_closing (c ∷ d ∷ ds) = option_map (λ front. c ∷ front) (before_closing (d ∷ ds))
-
--- the two texts that a source names
-abbrev pub named : List ℕ → Option (List ℕ) → Option (List ℕ × Option (List ℕ))
-named before None = None
-named before (Some inside) = Some (without_gaps_behind before, Some (without_gaps_behind (without_gaps_before inside)))
-
-abbrev pub parts_at : List ℕ → Option ℕ → Option (List ℕ × Option (List ℕ))
-parts_at text None = Some (text, None)
-parts_at text (Some n) = named (take n text) (before_closing (drop (n + 1) text))
-
--- The name and, in parentheses, the version, whatever they are; none where a parenthesis is not closed at the end.
-unfoldable pub source_parts : List ℕ → Option (List ℕ × Option (List ℕ))
-source_parts text = parts_at text (position is_opening text)
-
--- they are a package name and, where it is there, a version
-abbrev pub are_source : Option (List ℕ × Option (List ℕ)) → Bool
-are_source None = false
-are_source (Some (name, None)) = is_package_name name
-are_source (Some (name, Some version)) = is_package_name name && is_version version
-
-abbrev pub is_source : List ℕ → Bool
-is_source text = are_source (source_parts text)
+-- the text names this source: its name alone, or its name and its version
+abbrev pub IsSource : List ℕ → List ℕ → Option (List ℕ) → Type 0
+IsSource text name None = IsTrue (is_package_name name) × (text ≡ name)
+IsSource text name (Some version) = IsTrue (is_package_name name) × HasVersion text name version

@@ -1,5 +1,5 @@
 -- Packages all of whose facts are known, and their texts.
-use Rattle.std.specs.Prelude.{◌≡◌, ℕ, ◌<◌, ◌^◌, true, List, [], ◌∷◌, codes, length, unwrap_or, IfSome}
+use Rattle.std.specs.Prelude.{◌≡◌, ℕ, ◌<◌, ◌^◌, true, List, [], ◌∷◌, ◌++◌, codes, length, unwrap_or, IfSome}
 use Rattle.std.specs.Fmt.{decimal}
 use Rattle.hex.specs.Hex.{IsBytes, encode_lower}
 use Rattle.control_stanza.specs.declared.stanza.Field.{Field}
@@ -33,11 +33,15 @@ pub record IsTextOf (bytes : List ℕ) (p : Card) : Type 0 where
 abbrev pub field : List ℕ → List ℕ → Field
 field name value = record { name = name; value = value }
 
--- what is known of the file, as fields
-unfoldable pub file_fields : Card → List Field
-file_fields p =
-    field (codes "Filename") p.file ∷ field (codes "Size") (decimal p.said.size)
-    ∷ field (codes "MD5sum") (encode_lower (unwrap_or p.said.md5 []))
-    ∷ field (codes "SHA1") (encode_lower (unwrap_or p.said.sha1 []))
-    ∷ field (codes "SHA256") (encode_lower p.said.sha256)
+-- what is known of a file at a path, as fields
+unfoldable pub file_fields : List ℕ → Said → List Field
+file_fields path said =
+    field (codes "Filename") path ∷ field (codes "Size") (decimal said.size)
+    ∷ field (codes "MD5sum") (encode_lower (unwrap_or said.md5 []))
+    ∷ field (codes "SHA1") (encode_lower (unwrap_or said.sha1 []))
+    ∷ field (codes "SHA256") (encode_lower said.sha256)
     ∷ []
+
+-- the package's stanza, and behind it what is known of its file at a path
+abbrev pub fields_at : List ℕ → Card → List Field
+fields_at path p = p.stanza ++ file_fields path p.said

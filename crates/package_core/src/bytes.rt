@@ -1,6 +1,6 @@
-//! The bytes of a stanza's text one after another, without making the text.
-ghost use Rattle.std.specs.Prelude.{◌≡◌, ◌++◌, ◌∷◌, [], List, MatchOption, IfSome, ◌<◌, length};
-ghost use Rattle.std.specs.Ordering.{nat_cmp};
+//! The order of the texts of two stanzas, without making the texts.
+ghost use Rattle.std.specs.Prelude.{◌≡◌, ◌++◌, ◌∷◌, [], List, MatchOption, IfSome, ◌<◌, ◌≤◌, ◌↔◌, IsTrue, length, take};
+ghost use Rattle.std.specs.Ordering.{nat_cmp, ordering_then};
 ghost use Rattle.std.specs.Cmp.Lexicographic.{slice_cmp};
 ghost use Rattle.control_stanza.specs.Written.{gap, stanza_text};
 ghost use Rattle.package_core.specs.Left.{left as text_left, behind, parts_behind};
@@ -87,45 +87,89 @@ fn next_part<'a>(part: Part, fields: &'a [Field]) -> Option<Left<'a>>
     }
 }
 
-/// The next byte, and what is left behind it.
+/// What is left, from a part that has a byte on.
 #[tactic(auto, unfolding(crate::specs::Left::left))]
-fn next_byte(left: Left<'_>) -> Option<(u8, Left<'_>)>
-    ensures { MatchOption result (text_left left.entry ≡ []) (λ p. text_left left.entry ≡ p.0 ∷ text_left p.1) }
+fn at_next_piece(left: Left<'_>) -> Option<Left<'_>>
+    ensures { MatchOption result (text_left left.entry ≡ []) (λ next. (text_left next ≡ text_left left.entry) × (0 < length next.here.now)) }
 {
     let mut rest = left;
     while rest.here.is_empty() {
         rest = next_part(rest.part, rest.fields)?;
     }
-    let (byte, here) = rest.here.split_first()?;
-    Some((
-        *byte,
-        Left {
-            here,
-            part: rest.part,
-            fields: rest.fields,
-        },
-    ))
+    Some(rest)
 }
 
-/// The order of the texts of two stanzas, by bytes. It takes no memory.
-pub(crate) fn compare_stanzas(a: &Stanza, b: &Stanza) -> Ordering
+/// The order of as many bytes as both parts have, and what is left behind them.
+#[tactic(auto, unfolding(crate::specs::Left::left), using(std::proofs::Common::append_assoc))]
+fn compare_pieces<'a, 'b>(a: Left<'a>, b: Left<'b>) -> (Ordering, Left<'a>, Left<'b>)
+    requires { 0 < length b.here.now }
+    ensures order { slice_cmp nat_cmp (text_left a.entry) (text_left b.entry) ≡ ordering_then result.0 (slice_cmp nat_cmp (text_left result.1) (text_left result.2)) }
+    ensures fewer { 0 < length a.entry.here.now → length (text_left result.1) < length (text_left a.entry) }
+{
+    let count = a.here.len().min(b.here.len());
+    let (front, here) = a.here.split_at(count);
+    let (other_front, other_here) = b.here.split_at(count);
+    let rest = Left {
+        here,
+        part: a.part,
+        fields: a.fields,
+    };
+    let other_rest = Left {
+        here: other_here,
+        part: b.part,
+        fields: b.fields,
+    };
+    (front.cmp(other_front), rest, other_rest)
+}
+
+fn compare_fields(a: &[Field], b: &[Field]) -> Ordering
     ensures { result ≡ slice_cmp nat_cmp (stanza_text a.now) (stanza_text b.now) }
 {
-    let mut one = whole(a.fields());
-    let mut other = whole(b.fields());
-    while let Some((byte, behind)) = next_byte(one) {
-        let Some((other_byte, other_behind)) = next_byte(other) else {
+    let mut one = whole(a);
+    let mut other = whole(b);
+    while let Some(piece) = at_next_piece(one) {
+        let Some(other_piece) = at_next_piece(other) else {
             return Ordering::Greater;
         };
-        if byte != other_byte {
-            return byte.cmp(&other_byte);
+        let (order, rest, other_rest) = compare_pieces(piece, other_piece);
+        if order.is_ne() {
+            return order;
         }
-        one = behind;
-        other = other_behind;
+        one = rest;
+        other = other_rest;
     }
-    if next_byte(other).is_some() {
+    if at_next_piece(other).is_some() {
         Ordering::Less
     } else {
         Ordering::Equal
     }
+}
+
+fn is_same_field(a: &Field, b: &Field) -> bool
+    ensures { IsTrue result ↔ (a.now ≡ b.now) }
+{
+    a.name.is(&b.name) && a.value.is(&b.value)
+}
+
+/// How many fields from the front on the two have in common.
+fn fields_in_common(a: &[Field], b: &[Field]) -> usize
+    ensures inside { (result ≤ length a.now) × (result ≤ length b.now) }
+    ensures same { take result a.now ≡ take result b.now }
+{
+    let mut count = 0;
+    while count < a.len() && count < b.len() && is_same_field(&a[count], &b[count]) {
+        count += 1;
+    }
+    count
+}
+
+/// The order of the texts of two stanzas, by bytes. It takes no memory, and makes no text: fields that are equal in both
+/// are passed by, and behind them the parts of the fields are compared as they lie.
+pub(crate) fn compare_stanzas(a: &Stanza, b: &Stanza) -> Ordering
+    ensures { result ≡ slice_cmp nat_cmp (stanza_text a.now) (stanza_text b.now) }
+{
+    let a = a.fields();
+    let b = b.fields();
+    let count = fields_in_common(a, b);
+    compare_fields(&a[count..], &b[count..])
 }

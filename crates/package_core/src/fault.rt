@@ -1,10 +1,10 @@
 //! Why a stanza is no package, and why a file is not the package's.
-ghost use Rattle.std.specs.Prelude.{◌≡◌};
+ghost use Rattle.std.specs.Prelude.{◌≡◌, IfOk};
 ghost use Rattle.package_core.specs.declared.fault.PackageFault.TheVariants as package_faults;
 ghost use Rattle.package_core.specs.declared.fault.CompleteFault.TheVariants as complete_faults;
 
 use digest_set::{Digits, What};
-use std::alloc::AllocError;
+use std::alloc::{AllocError, Global};
 
 /// A field that each binary stanza has, in the order in which they are looked for.
 #[derive(Clone, Copy, Debug, PartialEq, Eq)]
@@ -53,6 +53,40 @@ pub enum CompleteFault {
     Differs(What, Digits, Digits),
     /// Memory ran out.
     OutOfMemory,
+}
+
+impl Required {
+    /// The same field once more.
+    pub fn copy(&self) -> Required
+        ensures { result ≡ self.now }
+    {
+        *self
+    }
+}
+
+impl PackageFault {
+    /// The same fault once more.
+    pub fn copy(&self) -> PackageFault
+        ensures { result ≡ self.now }
+    {
+        *self
+    }
+}
+
+impl CompleteFault {
+    /// The same fault once more. Fails only for want of memory.
+    pub fn copy(&self, alloc: Global) -> Result<CompleteFault, AllocError>
+        ensures { IfOk result (λ fault. fault ≡ self.now) }
+    {
+        match self {
+            CompleteFault::Differs(what, said, found) => Ok(CompleteFault::Differs(
+                *what,
+                said.copy(alloc)?,
+                found.copy(alloc)?,
+            )),
+            CompleteFault::OutOfMemory => Ok(CompleteFault::OutOfMemory),
+        }
+    }
 }
 
 impl From<AllocError> for PackageFault {

@@ -8,7 +8,8 @@ use crate::fault::PackageFault;
 use ap_text::{SafePath, is_safe_path};
 use std::alloc::{AllocError, Global};
 
-fn without_dots(text: &str) -> &str
+/// A path without `./` in front, as often as it stands there. What is left may be empty. It takes no memory.
+pub fn without_dots(text: &str) -> &str
     ensures { result.now ≡ undotted text.now }
 {
     let mut rest = text;

@@ -1,10 +1,10 @@
 //! The package of a binary stanza.
 ghost use Rattle.std.specs.Prelude.{◌≡◌, ◌∷◌, [], MatchResult, IfOk, IfErr, Some, None, List, true};
-ghost use Rattle.ap_text.specs.Names.{is_package_name as package_name};
+ghost use Rattle.ap_text.specs.Names.{is_package_name as package_name, is_architecture as architecture};
 ghost use Rattle.ap_text.specs.Paths.{segments};
 ghost use Rattle.control_stanza.specs.Fields.{value_of, is_stanza};
 ghost use Rattle.deb_version.specs.VersionText.{is_version};
-ghost use Rattle.package_core.specs.Fields.{is_architecture, own_fields};
+ghost use Rattle.package_core.specs.Fields.{is_of_file, own_fields};
 ghost use Rattle.package_core.specs.Faults.{field_name, fault_of, bad_identity, bad_said, FaultIs};
 ghost use Rattle.package_core.specs.Card.{card_of, said_in, path_in};
 ghost use Rattle.package_core.specs.Answers.{Reads, HasTexts};
@@ -13,7 +13,7 @@ ghost use Rattle.package_core.specs.Whole.{IsSaid};
 use crate::fault::{PackageFault, Required};
 use crate::package::Package;
 use crate::{path, said, source};
-use ap_text::{Name, SafePath, is_name, is_package_name};
+use ap_text::{Name, SafePath, is_architecture, is_package_name};
 use control_stanza::Stanza;
 use deb_version::{Version, VersionFault};
 use digest_set::Said;
@@ -92,9 +92,9 @@ fn read_version(alloc: Global, text: &str) -> Result<Version, PackageFault>
 }
 
 fn read_architecture(alloc: Global, text: &str) -> Result<Name, PackageFault>
-    ensures { Reads PackageFault.BadArchitecture (is_architecture text.now) (λ name. name ≡ text.now) result }
+    ensures { Reads PackageFault.BadArchitecture (architecture text.now) (λ name. name ≡ text.now) result }
 {
-    if !is_name(text) || text == "source" {
+    if !is_architecture(text) {
         return Err(PackageFault::BadArchitecture);
     }
     match Name::new(alloc, text) {
@@ -122,7 +122,7 @@ fn read_identity(alloc: Global, stanza: &Stanza, texts: Texts<'_>) -> Result<Ide
     let name = read_name(alloc, texts.name)?;
     let version = read_version(alloc, texts.version)?;
     let arch = read_architecture(alloc, texts.arch)?;
-    source::check_source(alloc, stanza.get("Source"))?;
+    source::check_source(stanza.get("Source"))?;
     Ok(Identity {
         name,
         version,
@@ -144,6 +144,20 @@ fn read_said(stanza: &Stanza, texts: Texts<'_>) -> Result<Said, PackageFault>
         sha1: said::read_optional::<20>(stanza.get("SHA1"))?,
         md5: said::read_optional::<16>(stanza.get("MD5sum"))?,
     })
+}
+
+/// Whether a field of that name, of whatever case, speaks of the package's file and is no part of its own stanza: whether
+/// it is Filename, Size, MD5sum, SHA1, SHA256 or SHA512. It takes no memory.
+#[tactic(auto, unfolding(control_stanza::specs::Fields::same_name))]
+pub fn is_file_field(name: &str) -> bool
+    ensures { result ≡ is_of_file name.now }
+{
+    name.eq_ignore_ascii_case("Filename")
+        || name.eq_ignore_ascii_case("Size")
+        || name.eq_ignore_ascii_case("MD5sum")
+        || name.eq_ignore_ascii_case("SHA1")
+        || name.eq_ignore_ascii_case("SHA256")
+        || name.eq_ignore_ascii_case("SHA512")
 }
 
 /// The stanza without the fields that speak of the file.

@@ -1,50 +1,24 @@
 //! What a stanza says of the package's file.
-ghost use Rattle.std.specs.Prelude.{◌≡◌, ◌<◌, ◌^◌, MatchOption, IsTrue, IsFalse, IfOk, IfSome, Some, not};
-ghost use Rattle.std.specs.List.{list_all};
+ghost use Rattle.std.specs.Prelude.{◌≡◌, ◌<◌, ◌^◌, IfOk, IfSome, Some, not};
 ghost use Rattle.std.specs.Option.{option_copied, option_and_then};
 ghost use Rattle.std.specs.Str.Parse.{digits_value};
-ghost use Rattle.deb_version.specs.Cuts.{is_digit};
-ghost use Rattle.package_core.specs.Fields.{is_decimal as decimal, is_number, is_digest, digest, is_other};
+ghost use Rattle.ap_text.specs.Decimals.{is_number};
+ghost use Rattle.package_core.specs.Fields.{is_digest, digest, is_other};
 ghost use Rattle.package_core.specs.Answers.{Reads};
 ghost use Rattle.package_core.specs.Whole.{IsDigest};
 
 use crate::fault::PackageFault;
-use crate::sizes::{has_size, is_small};
+use crate::sizes::has_size;
+use ap_text::read_decimal;
 use digest_set::digest_of_hex;
-
-#[tactic(auto, unfolding(deb_version::specs::Cuts::is_digit))]
-fn all_digits(text: &[u8]) -> bool
-    ensures { result ≡ list_all is_digit text.now }
-{
-    text.iter().all(|c| c.is_ascii_digit())
-}
-
-#[tactic(auto, unfolding(crate::specs::Fields::is_decimal))]
-fn is_decimal(text: &[u8]) -> bool
-    ensures { result ≡ decimal text.now }
-{
-    !text.is_empty() && all_digits(text) && (text.len() == 1 || text[0] != b'0')
-}
-
-fn number_of(text: &str) -> Option<u64>
-    ensures { MatchOption result (IsFalse (is_number text.now)) (λ n. IsTrue (is_number text.now) × (n ≡ digits_value 10 text.now)) }
-{
-    if !is_decimal(text.as_bytes()) {
-        return None;
-    }
-    text.parse().ok()
-}
 
 /// The number that a field Size gives.
 pub(crate) fn read_size(text: &str) -> Result<u64, PackageFault>
     ensures read { Reads PackageFault.BadNumber (is_number text.now) (λ n. n ≡ digits_value 10 text.now) result }
     ensures small { IfOk result (λ n. n < 2 ^ 64) }
 {
-    match number_of(text) {
-        Some(number) => {
-            is_small(number);
-            Ok(number)
-        }
+    match read_decimal(text) {
+        Some(number) => Ok(number),
         None => Err(PackageFault::BadNumber),
     }
 }

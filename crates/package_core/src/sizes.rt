@@ -1,5 +1,5 @@
 //! What the types of a file's facts say of their values.
-ghost use Rattle.std.specs.Prelude.{◌≡◌, ◌<◌, ◌^◌};
+ghost use Rattle.std.specs.Prelude.{◌≡◌, ◌<◌, ◌^◌, IfSome};
 ghost use Rattle.hex.specs.Hex.{IsBytes};
 ghost use Rattle.package_core.specs.Card.{said_of};
 ghost use Rattle.package_core.specs.Whole.{IsDigest, IsSaid};
@@ -21,6 +21,25 @@ pub(crate) fn has_size<const N: usize>(digest: [u8; N])
 pub(crate) fn is_small(size: u64)
     ensures { size < 2 ^ 64 }
 {}
+
+fn has_size_if_said<const N: usize>(digest: Option<[u8; N]>)
+    ensures { IfSome digest.entry (IsDigest N) }
+{
+    match digest {
+        None => {}
+        Some(digest) => has_size(digest),
+    }
+}
+
+/// What is said of a file has the sizes that its type says.
+pub(crate) fn has_sizes(said: &Said)
+    ensures { IsSaid said.now }
+{
+    is_small(said.size);
+    has_size(said.sha256);
+    has_size_if_said(said.sha1);
+    has_size_if_said(said.md5);
+}
 
 /// What was found of a file, as it is said in a package.
 pub(crate) fn as_said(found: &Digests) -> Said

@@ -1,15 +1,14 @@
 //! The value of a field Source.
 ghost use Rattle.std.specs.Prelude.{◌≡◌, ◌≤◌, length, not};
 ghost use Rattle.std.specs.Option.{option_copied, option_map};
-ghost use Rattle.package_core.specs.Source.{is_gap as gap, gaps_before, gaps_behind, without_gaps_before as cut_before, without_gaps_behind as cut_behind, before_closing as closed, source_parts, is_source};
-ghost use Rattle.deb_version.specs.VersionText.{is_version};
+ghost use Rattle.package_core.specs.Source.{is_gap as gap};
+ghost use Rattle.package_core.specs.SourceParts.{gaps_before, gaps_behind, without_gaps_before as cut_before, without_gaps_behind as cut_behind, before_closing as closed, source_parts, is_source as source};
 ghost use Rattle.package_core.specs.Fields.{is_other};
 ghost use Rattle.package_core.specs.Answers.{Reads};
 
 use crate::fault::PackageFault;
 use ap_text::is_package_name;
-use deb_version::{Version, VersionFault};
-use std::alloc::Global;
+use deb_version::is_version;
 
 fn is_gap(c: u8) -> bool
     ensures { result ≡ gap c }
@@ -52,7 +51,7 @@ fn before_closing(text: &str) -> Option<&str>
 }
 
 /// The name, and the version in parentheses, whatever they are.
-#[tactic(auto, unfolding(crate::specs::Source::source_parts))]
+#[tactic(auto, unfolding(crate::specs::SourceParts::source_parts))]
 pub(crate) fn parts(text: &str) -> Option<(&str, Option<&str>)>
     ensures { option_map (λ p. (p.0.now, option_copied p.1)) result ≡ source_parts text.now }
 {
@@ -68,40 +67,22 @@ pub(crate) fn parts(text: &str) -> Option<(&str, Option<&str>)>
     }
 }
 
-#[tactic(auto, unfolding(deb_version::specs::VersionText::is_version))]
-fn check_version(alloc: Global, text: &str) -> Result<(), PackageFault>
-    ensures { Reads PackageFault.BadSource (is_version text.now) (λ done. Unit {0}) result }
-{
-    match Version::parse(alloc, text) {
-        Ok(_) => Ok(()),
-        Err(VersionFault::OutOfMemory) => Err(PackageFault::OutOfMemory),
-        Err(_) => Err(PackageFault::BadSource),
-    }
-}
-
-fn check_text(alloc: Global, text: &str) -> Result<(), PackageFault>
-    ensures { Reads PackageFault.BadSource (is_source text.now) (λ done. Unit {0}) result }
+fn is_source(text: &str) -> bool
+    ensures { result ≡ source text.now }
 {
     match parts(text) {
-        None => Err(PackageFault::BadSource),
-        Some((name, version)) => {
-            if !is_package_name(name) {
-                return Err(PackageFault::BadSource);
-            }
-            match version {
-                None => Ok(()),
-                Some(version) => check_version(alloc, version),
-            }
-        }
+        None => false,
+        Some((name, None)) => is_package_name(name),
+        Some((name, Some(version))) => is_package_name(name) && is_version(version),
     }
 }
 
 /// Refuses a field Source that is there and is no source.
-pub(crate) fn check_source(alloc: Global, text: Option<&str>) -> Result<(), PackageFault>
-    ensures { Reads PackageFault.BadSource (not (is_other is_source (option_copied text.entry))) (λ done. Unit {0}) result }
+pub(crate) fn check_source(text: Option<&str>) -> Result<(), PackageFault>
+    ensures { Reads PackageFault.BadSource (not (is_other source (option_copied text.entry))) (λ done. Unit {0}) result }
 {
     match text {
-        None => Ok(()),
-        Some(text) => check_text(alloc, text),
+        Some(text) if !is_source(text) => Err(PackageFault::BadSource),
+        _ => Ok(()),
     }
 }

@@ -1,37 +1,33 @@
 //! The text of a package.
-ghost use Rattle.std.specs.Prelude.{◌≡◌, ◌++◌, IfOk, OnOk, unwrap_or, [], string_bytes};
-ghost use Rattle.control_stanza.specs.Written.{stanza_text};
+ghost use Rattle.std.specs.Prelude.{◌≡◌, ◌++◌, IfOk, OnOk, OnErr, unwrap_or, [], take, length};
+ghost use Rattle.std.specs.Str.{IsUtf8};
 ghost use Rattle.hex.specs.Hex.{encode_lower};
 ghost use Rattle.package_core.specs.Card.{line, file_text, package_text};
 
 use crate::package::Package;
-use control_stanza::{Stanza, Text, write_stanza};
-use digest_set::Digits;
+use crate::sizes::has_sizes;
+use ap_text::SafePath;
+use control_stanza::{Text, write_stanza};
+use digest_set::{Digits, Said};
 use std::alloc::{AllocError, Global};
 
-fn stanza_string(alloc: Global, stanza: &Stanza) -> Result<String, AllocError>
-    ensures { IfOk result (λ text. string_bytes text ≡ stanza_text stanza.now) }
+#[tactic(auto, using(std::proofs::Common::append_assoc))]
+fn put_line(out: &mut Vec<u8>, name: &str, value: &str) -> Result<(), AllocError>
+    ensures kept { take (length out.old.items) out.new.items ≡ out.old.items }
+    ensures ok { OnOk result (out.new.items ≡ out.old.items ++ line name.now value.now) }
 {
-    // The fields are a stanza's, so their text is UTF-8.
-    let _ = stanza.fields();
-    let mut bytes = Vec::new(alloc);
-    write_stanza(&mut bytes, stanza)?;
-    String::from_utf8_lossy(alloc, &bytes)
+    out.extend_from_slice(name.as_bytes())?;
+    out.extend_from_slice(b": ")?;
+    out.extend_from_slice(value.as_bytes())?;
+    out.push(b'\n')?;
+    Ok(())
 }
 
-fn put_line(out: &mut String, name: &str, value: &str) -> Result<(), AllocError>
-    ensures { OnOk result (string_bytes out.new ≡ string_bytes out.old ++ line name.now value.now) }
+fn put_digest(out: &mut Vec<u8>, name: &str, digest: &[u8]) -> Result<(), AllocError>
+    ensures kept { take (length out.old.items) out.new.items ≡ out.old.items }
+    ensures ok { OnOk result (out.new.items ≡ out.old.items ++ line name.now (encode_lower digest.now)) }
 {
-    out.push_str(name)?;
-    out.push_str(": ")?;
-    out.push_str(value)?;
-    out.push('\n')
-}
-
-fn put_digest(alloc: Global, out: &mut String, name: &str, digest: &[u8]) -> Result<(), AllocError>
-    ensures { OnOk result (string_bytes out.new ≡ string_bytes out.old ++ line name.now (encode_lower digest.now)) }
-{
-    let digits = Digits::hexadecimal(alloc, digest)?;
+    let digits = Digits::hexadecimal(*out.allocator(), digest)?;
     put_line(out, name, digits.as_str())
 }
 
@@ -44,24 +40,55 @@ fn bytes_of<const N: usize>(digest: &Option<[u8; N]>) -> &[u8]
     }
 }
 
-/// What is known of the file, each fact on a line of its own.
+/// What is known of a file, each fact on a line of its own.
 #[tactic(auto, unfolding(crate::specs::Card::file_text), using(std::proofs::Common::append_assoc))]
-fn put_file(alloc: Global, out: &mut String, of: &Package) -> Result<(), AllocError>
-    ensures { OnOk result (string_bytes out.new ≡ string_bytes out.old ++ file_text of.now) }
+fn put_lines(out: &mut Vec<u8>, path: &SafePath, said: &Said) -> Result<(), AllocError>
+    ensures kept { take (length out.old.items) out.new.items ≡ out.old.items }
+    ensures ok { OnOk result (out.new.items ≡ out.old.items ++ file_text path.now said.now) }
 {
-    put_line(out, "Filename", of.file.as_str())?;
-    let size = Digits::decimal(alloc, of.said.size)?;
+    put_line(out, "Filename", path.as_str())?;
+    let size = Digits::decimal(*out.allocator(), said.size)?;
     put_line(out, "Size", size.as_str())?;
-    put_digest(alloc, out, "MD5sum", bytes_of(&of.said.md5))?;
-    put_digest(alloc, out, "SHA1", bytes_of(&of.said.sha1))?;
-    put_digest(alloc, out, "SHA256", &of.said.sha256)
+    put_digest(out, "MD5sum", bytes_of(&said.md5))?;
+    put_digest(out, "SHA1", bytes_of(&said.sha1))?;
+    put_digest(out, "SHA256", &said.sha256)
+}
+
+/// Appends the lines `Filename`, `Size`, `MD5sum`, `SHA1` and `SHA256` on a file at a path, digests in lower case. They are
+/// meant for a file of which all four facts are known: a digest that isn't has a line without digits. For want of memory
+/// nothing is appended.
+pub fn put_file_lines(out: &mut Vec<u8>, path: &SafePath, said: &Said) -> Result<(), AllocError>
+    ensures ok { OnOk result (out.new.items ≡ out.old.items ++ file_text path.now said.now) }
+    ensures err { OnErr result (out.new.items ≡ out.old.items) }
+{
+    let before = out.len();
+    match put_lines(out, path, said) {
+        Ok(()) => Ok(()),
+        Err(error) => {
+            out.truncate(before);
+            Err(error)
+        }
+    }
+}
+
+/// The lines on a file are UTF-8: the path is visible, and digits are ASCII.
+fn are_text(path: &SafePath, said: &Said)
+    ensures { IsUtf8 (file_text path.now said.now) }
+{
+    let _ = path.as_str();
+    has_sizes(said);
 }
 
 #[tactic(auto, unfolding(crate::specs::Card::package_text))]
 pub(crate) fn text_of(alloc: Global, of: &Package) -> Result<Text, AllocError>
     ensures { IfOk result (λ text. text ≡ package_text of.now) }
 {
-    let mut text = stanza_string(alloc, &of.stanza)?;
-    put_file(alloc, &mut text, of)?;
+    // The fields are a stanza's, so their text is UTF-8.
+    let _ = of.stanza.fields();
+    are_text(&of.file, &of.said);
+    let mut bytes = Vec::new(alloc);
+    write_stanza(&mut bytes, &of.stanza)?;
+    put_file_lines(&mut bytes, &of.file, &of.said)?;
+    let text = String::from_utf8_lossy(alloc, &bytes)?;
     Text::new(alloc, text.as_str())
 }

@@ -1,7 +1,7 @@
 use Rattle.std.proofs.Common.{◌≡◌, ◌+◌, ◌-◌, ◌∙◌, ap, arith, subst}
 use Rattle.std.specs.Str.{IsCharBoundary}
 use Rattle.std.proofs.lemmas.Str.{IsCharBoundary-after_ascii}
-use Rattle.package_core.specs.Source.{gaps_before}
+use Rattle.package_core.specs.SourceParts.{gaps_before}
 use Rattle.package_core.proofs.SourceLemmas.{last_gap}
 use Rattle.package_core.proofs.source.without_gaps_before.Goals as goal
 

@@ -1,5 +1,5 @@
 use Rattle.std.proofs.Common.{◌≡◌, ◌∙◌, ap, arith}
-use Rattle.package_core.specs.Source.{gaps_behind}
+use Rattle.package_core.specs.SourceParts.{gaps_behind}
 use Rattle.package_core.proofs.SourceLemmas.{first_gap}
 use Rattle.package_core.proofs.source.without_gaps_behind.Goals as goal
 

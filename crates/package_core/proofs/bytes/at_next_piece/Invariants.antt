@@ -1,6 +1,6 @@
 use Rattle.std.proofs.Common.{◌≡◌, length}
 use Rattle.package_core.specs.Left.{left as text_left, parts_behind}
-use Rattle.package_core.proofs.bytes.next_byte.Given as goal
+use Rattle.package_core.proofs.bytes.at_next_piece.Given as goal
 
 abbrev pub invariant-loop-rest : goal.invariant-loop-rest
 invariant-loop-rest l = text_left l.rest ≡ text_left l.left
