@@ -21,8 +21,9 @@ impl Bytes {
     pub fn new(alloc: Global, bytes: &[u8]) -> Result<Bytes, AllocError>
         ensures { IfOk result (λ b. b ≡ bytes.now) }
     {
-        let bytes = bytes.to_vec(alloc)?;
-        Ok(Bytes { bytes })
+        let mut copy = Bytes::empty(alloc);
+        copy.extend(bytes)?;
+        Ok(copy)
     }
 
     /// No bytes; it takes no memory.
