@@ -1,5 +1,5 @@
 // A file of the inbox is taken into the pool.
-ghost use Rattle.std.specs.Prelude.{◌≡◌, IfOk, IfErr, IsErrOf};
+ghost use Rattle.std.specs.Prelude.{◌≡◌, ◌≤◌, length as length_of, IfOk, IfErr, IsErrOf};
 ghost use Rattle.std.specs.Fmt.{decimal};
 ghost use Rattle.std.specs.Option.{ForSome};
 ghost use Rattle.ap_host.specs.Calls.{CauseOf};
@@ -35,6 +35,7 @@ fn body<I: Inbox>(
     said: &Said,
 ) -> Result<Bytes, PoolFault>
     ensures told { ForSome (I.map inbox.old) (λ f. IsFound (f path.now) said.now result) }
+    ensures bound { IfOk result (λ bytes. length_of bytes ≤ said.now.size) }
     ensures differs { IfErr result (IsDifference said.now) }
     ensures host { IsErrOf result HostFault → ⊥ }
     ensures map { I.map inbox.new ≡ I.map inbox.old }
