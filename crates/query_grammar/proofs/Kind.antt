@@ -1,8 +1,6 @@
 -- The kind of a fault is the first that fits its place.
-use Rattle.std.proofs.Common.{◌≡◌, ◌⊎◌, inl, inr, ℕ, suc, zero, ◌+◌, ◌<◌, ◌==◌, Bool, true, false, cond, ◌||◌, not, List, [], ◌∷◌, ◌++◌, length, Option, Some, None, IsTrue, refl, sym, ap, ◌∙◌, subst, append_assoc, append-nil, arith, lit<}
-use Rattle.std.specs.List.{prefix_len}
-use Rattle.std.specs.Str.Parse.{digits_value}
-use Rattle.std.proofs.lemmas.Bool.{or_right, true≢false, cases_Bool, cond_both, eq-eqb, eqb-true}
+use Rattle.std.proofs.Common.{◌≡◌, ◌⊎◌, inl, inr, ℕ, suc, zero, ◌==◌, Bool, true, false, cond, List, [], ◌∷◌, ◌++◌, Option, Some, None, refl, sym, ap, ◌∙◌, subst, arith, lit<}
+use Rattle.std.proofs.lemmas.Bool.{or_right, true≢false, cond_both, eq-eqb, eqb-true}
 use Rattle.ap_text.specs.Names.{is_architecture}
 use Rattle.deb_version.specs.VersionText.{is_version, fault_of, epoch_of, start_of, upstream_in, revision_in, is_epoch, is_revision_byte, is_upstream_byte, bad_in_upstream, bad_in_revision}
 use Rattle.deb_version.specs.Cuts.{is_digit}
@@ -20,20 +18,20 @@ use Rattle.query_grammar.specs.declared.term.Begun.TheVariants as so_far
 use Rattle.query_grammar.specs.declared.level.Next.{Next}
 use Rattle.query_grammar.specs.declared.level.Next.TheVariants.{Wanting, Having, Within}
 use Rattle.query_grammar.specs.declared.fault.QueryKind.{QueryKind}
-use Rattle.query_grammar.specs.declared.fault.QueryKind.TheVariants.{TooDeep, WantTerm, BadOperator, BadVersion, WantClose, WantValue, Trailing, TooLong}
+use Rattle.query_grammar.specs.declared.fault.QueryKind.TheVariants.{TooDeep, WantTerm, BadOperator, BadVersion, WantClose, WantValue, Trailing}
 use Rattle.query_tree.specs.Pieces.{Piece, Token, token, gap, word, operator, lone, quoted, broken, mark, is_blank, is_word, is_quote, closing, quoted_cut, plain_cut, inner_cut, opening_cut, cut_of, next_place, quoted_value, joined}
 use Rattle.query_tree.specs.Tree.{Tree, wanted, field}
 use Rattle.query_tree.specs.Words.{is_package, is_field, relation_of, may_test}
-use Rattle.query_grammar.specs.Reading.{Progress, goes_on, wrong, progress, version_at, compared, relation_at, value_at, test_at, arch_at, closed_by, ended, whole, at_end, step_progress, after_whole, begun, is_reference, begin_negation, begin_group, Level, State, Step, goes, stops, step, step_having, step_wanting, closed_group, having_one, whole_level, with_member, finish, finish_having, finish_progress, fault, Reading, reading}
+use Rattle.query_grammar.specs.Reading.{Progress, goes_on, wrong, progress, version_at, compared, relation_at, value_at, test_at, closed_by, ended, whole, at_end, step_progress, after_whole, begun, is_reference, begin_negation, begin_group, Level, State, Step, goes, stops, step, step_having, step_wanting, closed_group, having_one, whole_level, with_member, finish, finish_having, finish_progress, fault, reading}
 use Rattle.query_grammar.specs.Places.{CanBegin}
-use Rattle.query_grammar.specs.Kinds.{run_of, sign_of, TermBegins, ValueBegins, ArchBegins, MayClose, IsLevel, IsOperator, IsWordOrQuoted, IsBroken, operator_shape, value_shape, Fits, NoEarlier, IsFirstKind}
+use Rattle.query_grammar.specs.Kinds.{run_of, sign_of, TermBegins, ValueBegins, ArchBegins, MayClose, IsLevel, IsOperator, IsWordOrQuoted, IsBroken, operator_shape, Fits, NoEarlier, IsFirstKind}
 use Rattle.query_grammar.proofs.WordFacts.{begun-package}
-use Rattle.query_tree.proofs.Lexing.{IsOuter, NotFirst, Separates, IsCut, FrontCut, place_after, place_after-append}
+use Rattle.query_tree.proofs.Lexing.{IsOuter, IsCut, FrontCut, place_after-append}
 use Rattle.query_tree.proofs.Fronts.{LastSeparates, front_split, text_front}
 use Rattle.query_grammar.proofs.PlaceOf.{reading_stopped}
 use Rattle.query_grammar.proofs.Complete.{opened-version, compared-version, value-progress, opened-value}
-use Rattle.query_grammar.proofs.Reach.{NextAt, BegunAt, Open, LastSeparates-push}
-use Rattle.query_grammar.proofs.Viable.{Reach, Fails, Stopped}
+use Rattle.query_grammar.proofs.Reach.{BegunAt, Open, LastSeparates-push}
+use Rattle.query_grammar.proofs.Viable.{Fails}
 use Rattle.query_grammar.proofs.Ends.{shut}
 use Rattle.query_grammar.proofs.May.{Stand, here, may-stand, may-one, may-two, never-one, never-two}
 

@@ -1,28 +1,16 @@
 -- Which pieces may stand where the reader stands.
-use Rattle.std.proofs.Common.{◌≡◌, ◌⊎◌, inl, inr, ℕ, suc, zero, ◌+◌, ◌<◌, ◌==◌, Bool, true, false, cond, ◌||◌, not, List, [], ◌∷◌, ◌++◌, length, Option, Some, None, IsTrue, refl, sym, ap, ◌∙◌, subst, append_assoc, append-nil, arith, lit<}
-use Rattle.std.specs.List.{prefix_len}
-use Rattle.std.proofs.lemmas.Bool.{or_right, true≢false}
-use Rattle.ap_text.specs.Names.{is_architecture}
-use Rattle.deb_version.specs.VersionText.{is_version, fault_of, epoch_of, start_of, upstream_in, revision_in, is_epoch, is_revision_byte, is_upstream_byte, bad_in_upstream, bad_in_revision}
-use Rattle.deb_version.specs.Cuts.{is_digit}
-use Rattle.deb_version.specs.declared.order.Relation.{Relation}
-use Rattle.query_tree.specs.declared.query.Test.{Test}
+use Rattle.std.proofs.Common.{◌≡◌, ℕ, List, [], ◌∷◌, ◌++◌, sym, ap, subst, append_assoc, append-nil}
 use Rattle.query_tree.specs.declared.piece.Place.{Place}
-use Rattle.query_tree.specs.declared.piece.Place.TheVariants.{Outside, BehindWord, Opening, Inside}
-use Rattle.query_tree.specs.declared.piece.Shape.{Shape}
-use Rattle.query_tree.specs.declared.piece.Shape.TheVariants.{Blank, Word, Operator, Lone, Quoted, Broken, Mark}
+use Rattle.query_tree.specs.declared.piece.Place.TheVariants.{Outside}
 use Rattle.query_grammar.specs.declared.fault.QueryKind.{QueryKind}
-use Rattle.query_tree.specs.Pieces.{Piece, token, is_blank, is_word, plain_cut, inner_cut, opening_cut, cut_of, next_place, joined}
-use Rattle.query_tree.specs.Words.{is_package, may_test}
-use Rattle.query_grammar.specs.Reading.{State, Step, goes, stops, step}
+use Rattle.query_tree.specs.Pieces.{Piece, token}
+use Rattle.query_grammar.specs.Reading.{State, goes, stops, step}
 use Rattle.query_grammar.specs.Places.{CanBegin}
-use Rattle.query_tree.proofs.Lexing.{IsOuter, NotFirst, Separates, IsCut, FrontCut, place_after}
-use Rattle.query_tree.proofs.Fronts.{LastSeparates, front_join, other_end, joined-append}
-use Rattle.query_grammar.proofs.Reach.{Open}
+use Rattle.query_tree.proofs.Lexing.{IsCut, FrontCut, place_after}
+use Rattle.query_tree.proofs.Fronts.{LastSeparates, front_join, other_end}
 use Rattle.query_grammar.proofs.Viable.{Reach, reach-step}
 use Rattle.query_grammar.proofs.Ends.{viable}
 use Rattle.query_grammar.proofs.PlaceOf.{no_further}
-use Rattle.query_grammar.specs.Kinds.{run_of, sign_of}
 
 abbrev pub here : List Piece → Place
 here front = place_after Outside front

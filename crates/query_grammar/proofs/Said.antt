@@ -1,7 +1,6 @@
 -- What a text says is what the grammar says.
-use Rattle.std.proofs.Common.{◌≡◌, inl, inr, ◌⊎◌, ℕ, suc, zero, ◌+◌, ◌<◌, ◌≤◌, List, [], ◌∷◌, ◌++◌, length, Option, Some, Result, Ok, Err, Bool, true, false, refl, sym, ap, ◌∙◌, subst, append-nil, arith, rules}
+use Rattle.std.proofs.Common.{◌≡◌, inl, inr, ◌⊎◌, ℕ, suc, zero, ◌+◌, ◌<◌, ◌≤◌, List, [], ◌∷◌, ◌++◌, length, Some, Result, Ok, Err, Bool, true, false, refl, sym, ap, ◌∙◌, subst, append-nil, arith, rules}
 use Rattle.std.specs.Bool.{nat_lt, if◌then◌else◌}
-use Rattle.query_grammar.specs.declared.fault.QueryKind.{QueryKind}
 use Rattle.query_tree.specs.Tree.{Tree}
 use Rattle.query_tree.specs.Pieces.{Piece, joined}
 use Rattle.query_tree.specs.Grammar.{QueryText}

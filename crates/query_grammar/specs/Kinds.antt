@@ -2,7 +2,7 @@
 -- there is said by which pieces some query goes on with.
 use Rattle.std.specs.Prelude.{◌≡◌, ℕ, ◌⊎◌, List, [], ◌∷◌, ◌++◌, length}
 use Rattle.query_tree.specs.declared.piece.Shape.{Shape}
-use Rattle.query_tree.specs.declared.piece.Shape.TheVariants.{Blank, Word, Operator, Lone, Quoted, Broken, Mark}
+use Rattle.query_tree.specs.declared.piece.Shape.TheVariants.{Word, Operator, Lone, Quoted, Broken, Mark}
 use Rattle.query_grammar.specs.declared.fault.QueryKind.{QueryKind}
 use Rattle.query_grammar.specs.declared.fault.QueryKind.TheVariants.{TooDeep, WantTerm, BadOperator, BadVersion, WantClose, WantValue, Trailing, TooLong}
 use Rattle.query_tree.specs.Pieces.{Piece, pieces, joined}
