@@ -9,11 +9,11 @@ use Rattle.package_core.specs.Card.{Card}
 use Rattle.package_core.specs.Order.{package_cmp, triple_cmp, same_triple}
 use Rattle.package_core.proofs.OrderLaws.{package_total, triple_total, same_triple-is}
 use Rattle.package_list.specs.Sorted.{IsAscending, IsBelow, AllLess, equal_of}
-use Rattle.package_list.specs.Lists.{clash, clashes}
+use Rattle.package_list.specs.Lists.{clash, clashes, has_clash}
 use Rattle.package_list.proofs.Pushes.{less_before, ascending_push}
 use Rattle.machine_state.specs.declared.repo.Repo.{Repo}
 use Rattle.machine_state.specs.Ascending as names
-use Rattle.machine_state.specs.State.{has_clash, IsKnown, name_cmp, repo_cmp}
+use Rattle.machine_state.specs.State.{IsKnown, name_cmp, repo_cmp}
 use Rattle.catalogue_text.specs.Grammar.{MayJoin}
 use Rattle.catalogue_text.specs.Reading.{Each}
 

@@ -2,6 +2,7 @@
 use Rattle.std.proofs.Common.{◌≡◌, ◌⊎◌, inl, inr, ℕ, suc, ◌≤◌, Bool, true, false, not, cond, ◌&&◌, ◌||◌, List, [], ◌∷◌, map, length, Option, Some, None, Result, Ok, Err, refl, sym, ap, ◌∙◌, subst, arith, nat_lt, find, Ordering, Less, Equal, Greater, ltb-false, true≢false}
 use Rattle.std.specs.Ordering.{is_eq, ordering_reverse, nat_cmp}
 use Rattle.std.specs.List.{All, AllByRecursion, list_any}
+use Rattle.std.specs.Option.{option_or}
 use Rattle.std.specs.Str.{bytes_eq}
 use Rattle.std.specs.Cmp.Lexicographic.{slice_cmp}
 use Rattle.std.proofs.lemmas.Map.Text.{is_eq-slice_cmp}
@@ -10,10 +11,11 @@ use Rattle.package_core.specs.Card.{Card}
 use Rattle.package_core.specs.Order.{package_cmp, triple_cmp}
 use Rattle.package_core.specs.Whole.{IsWhole}
 use Rattle.package_core.proofs.OrderLaws.{package_total, triple_total, same_triple-is}
+use Rattle.package_list.specs.declared.list.TheConstants.{MOST_MEMBERS}
 use Rattle.package_list.specs.declared.fault.ListFault.{ListFault}
 use Rattle.package_list.specs.declared.fault.ListFault.TheVariants.{Full}
-use Rattle.package_list.specs.Sorted.{IsAscending, equal_of, or_else}
-use Rattle.package_list.specs.Lists.{union, clash, clashes}
+use Rattle.package_list.specs.Sorted.{IsAscending, equal_of}
+use Rattle.package_list.specs.Lists.{union, clash, clashes, has_clash}
 use Rattle.package_list.specs.Answers.{append_answer, conflict_or, first_clash, size_answer}
 use Rattle.package_list.proofs.SortedLemmas.{union_ascending}
 use Rattle.package_list.proofs.Unions.{equal_of_union}
@@ -21,7 +23,7 @@ use Rattle.machine_state.specs.declared.limit.Limit.TheVariants.{Packages, Known
 use Rattle.machine_state.specs.declared.repo.Repo.{Repo}
 use Rattle.machine_state.specs.Ascending as plain
 use Rattle.machine_state.specs.Limits.{limit_number}
-use Rattle.machine_state.specs.State.{IsRepo, IsKnown, IsNamedList, IsCatalogue, Valid, has_clash, repo_cmp, repo_of, text_length}
+use Rattle.machine_state.specs.State.{IsRepo, IsKnown, IsNamedList, IsCatalogue, Valid, repo_cmp, repo_of, text_length}
 use Rattle.machine_state.specs.Values.{StateView}
 use Rattle.local_repo.specs.Arrival.{list_in, list_of}
 use Rattle.local_repo.specs.Fits.{with_more, FitsIn, IsTaken, AreTaken}
@@ -80,7 +82,7 @@ apart_union own list a apart none = none_any (clashes all) all (all_union packag
     own_apart = none_of (clashes own) own apart
 
     own_members : AllByRecursion (λ p. equal_of package_cmp (union own list) p ≡ Some p) own
-    own_members = all_map (λ p. equal_of package_cmp own p ≡ Some p) (λ p. equal_of package_cmp (union own list) p ≡ Some p) (λ p h. equal_of_union package_total own list p a ∙ ap (λ e. or_else package_cmp e (equal_of package_cmp list p)) h) own (each_itself package_total own a)
+    own_members = all_map (λ p. equal_of package_cmp own p ≡ Some p) (λ p. equal_of package_cmp (union own list) p ≡ Some p) (λ p h. equal_of_union package_total own list p a ∙ ap (λ e. option_or e (equal_of package_cmp list p)) h) own (each_itself package_total own a)
 
     one_later : (p : Card) → equal_of package_cmp (union own list) p ≡ Some p → (ys : List Card) → AllByRecursion (λ q. clashes (union own list) q ≡ false) ys → AllByRecursion (λ q. clash q p ≡ false) ys
     one_later p m [] h = tt
@@ -103,17 +105,17 @@ sized b = cond b (Err Full) (Ok tt)
 appends : (own list : List Card) → append_answer own list ≡ Ok tt → Appends own list
 appends own list h = by_clash (first_clash (union own list) list) refl h
   where
-    by_size : (b : Bool) → nat_lt 200000 (length (union own list)) ≡ b → sized b ≡ Ok tt → length (union own list) ≤ limit_number Packages
+    by_size : (b : Bool) → nat_lt (limit_number Packages) (length (union own list)) ≡ b → sized b ≡ Ok tt → length (union own list) ≤ limit_number Packages
     by_size true e g = cc
-    by_size false e g = ltb-false 200000 (length (union own list)) e
+    by_size false e g = ltb-false (limit_number Packages) (length (union own list)) e
 
-    by_clash : (c : Option Card) → first_clash (union own list) list ≡ c → conflict_or c (size_answer 200000 (union own list)) ≡ Ok tt → Appends own list
+    by_clash : (c : Option Card) → first_clash (union own list) list ≡ c → conflict_or c (size_answer MOST_MEMBERS (union own list)) ≡ Ok tt → Appends own list
     by_clash (Some p) e g = cc
-    by_clash None e g = record { none = e; few = by_size (nat_lt 200000 (length (union own list))) refl g }
+    by_clash None e g = record { none = e; few = by_size (nat_lt (limit_number Packages) (length (union own list))) refl g }
 
 -- ---- what is known goes on being known
 known_more : (known list : List Card) (p : Card) → IsAscending package_cmp known → IsKnown known p → IsKnown (union known list) p
-known_more known list p a h = equal_of_union package_total known list p a ∙ ap (λ e. or_else package_cmp e (equal_of package_cmp list p)) h
+known_more known list p a h = equal_of_union package_total known list p a ∙ ap (λ e. option_or e (equal_of package_cmp list p)) h
 
 known_all : (known list : List Card) (xs : List Card) → IsAscending package_cmp known → All (IsKnown known) xs → All (IsKnown (union known list)) xs
 known_all known list xs a h = by_places (IsKnown (union known list)) xs (all_map (IsKnown known) (IsKnown (union known list)) (λ p. known_more known list p a) xs (each_of (IsKnown known) xs h))
@@ -142,7 +144,7 @@ taken_known known ps qs a b h = each qs (taken_all known ps qs (λ q. (equal_of 
   where
     one : (q : Card) → (equal_of package_cmp known q ≡ Some q) ⊎ (equal_of package_cmp known q ≡ None) → equal_of package_cmp qs q ≡ Some q → IsKnown (union known qs) q
     one q (inl s) m = known_more known qs q a s
-    one q (inr n) m = equal_of_union package_total known qs q a ∙ ap (λ e. or_else package_cmp e (equal_of package_cmp qs q)) n ∙ m
+    one q (inr n) m = equal_of_union package_total known qs q a ∙ ap (λ e. option_or e (equal_of package_cmp qs q)) n ∙ m
 
     each : (xs : List Card) → AllByRecursion (λ q. (equal_of package_cmp known q ≡ Some q) ⊎ (equal_of package_cmp known q ≡ None)) xs → AllByRecursion (λ q. equal_of package_cmp qs q ≡ Some q) xs → AllByRecursion (IsKnown (union known qs)) xs
     each [] s m = tt

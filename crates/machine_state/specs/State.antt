@@ -1,6 +1,6 @@
 -- Which states are valid.
 use Rattle.std.specs.Prelude.{◌≡◌, ◌≤◌, ℕ, ◌+◌, ◌-◌, Bool, not, ◌&&◌, ◌==◌, nat_le, List, [], ◌∷◌, length, slice_index, Option, Some, IsTrue, IsFalse, IfSome, All, find, codes}
-use Rattle.std.specs.List.{list_all, list_any}
+use Rattle.std.specs.List.{list_all}
 use Rattle.std.specs.Str.{IsUtf8, bytes_eq}
 use Rattle.std.specs.Ordering.{nat_cmp}
 use Rattle.std.specs.Cmp.Lexicographic.{slice_cmp}
@@ -11,7 +11,7 @@ use Rattle.package_core.specs.Whole.{IsWhole}
 use Rattle.package_core.specs.Order.{package_cmp}
 use Rattle.package_list.specs.Sorted.{equal_of}
 use Rattle.package_list.specs.Sorted as sorted
-use Rattle.package_list.specs.Lists.{clashes}
+use Rattle.package_list.specs.Lists.{has_clash}
 use Rattle.machine_state.specs.declared.limit.Limit.TheVariants.{Repos, Packages, Known, Catalogue, File}
 use Rattle.machine_state.specs.declared.repo.Repo.{Repo}
 use Rattle.machine_state.specs.Ascending.{IsAscending}
@@ -48,10 +48,6 @@ name_cmp repo name = slice_cmp nat_cmp repo.name name
 
 abbrev pub repo_cmp : Repo → Repo → Ordering
 repo_cmp a b = name_cmp a b.name
-
--- no two members have one name, version and architecture
-abbrev pub has_clash : List Card → Bool
-has_clash list = list_any (clashes list) list
 
 -- the package is known, with the size and the digests that are known
 abbrev pub IsKnown : List Card → Card → Type 0

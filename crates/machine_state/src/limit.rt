@@ -2,6 +2,8 @@
 ghost use Rattle.std.specs.Prelude.{◌≡◌};
 ghost use Rattle.machine_state.specs.Limits.{limit_number};
 
+use package_list::{MOST_KNOWN, MOST_MEMBERS};
+
 /// A kind of thing that has a name.
 #[derive(Clone, Copy, Debug, PartialEq, Eq)]
 pub enum Kind {
@@ -53,8 +55,8 @@ impl Limit {
     {
         match self {
             Limit::Mirrors | Limit::Repos | Limit::Snapshots | Limit::Publications => 10_000,
-            Limit::Packages => 200_000,
-            Limit::Known => 400_000,
+            Limit::Packages => MOST_MEMBERS as u64,
+            Limit::Known => MOST_KNOWN as u64,
             Limit::Catalogue | Limit::Generation => 1_073_741_824,
             Limit::Index => 134_217_728,
             Limit::ReleaseBytes => 4_194_304,

@@ -7,6 +7,7 @@ use Rattle.std.specs.Bool.{if◌then◌else◌}
 use Rattle.std.specs.Cmp.{IsTotalOrder}
 use Rattle.package_core.specs.Card.{Card}
 use Rattle.package_core.proofs.OrderLaws.{package_total}
+use Rattle.package_list.specs.declared.list.TheConstants.{MOST_KNOWN}
 use Rattle.package_list.specs.Sorted.{placed, put, union, has, IsAscending}
 use Rattle.package_list.specs.Lists as lists
 use Rattle.package_list.proofs.SortedLemmas.{put_has}
@@ -120,13 +121,13 @@ pub list_more : (state : StateView) (name : List ℕ) (list : List Card) (repo :
 list_more state name list repo e = with_more_named name list repo (found_name name state.repos repo e)
 
 -- a list that fits isn't too long with what was there
-pub fits_own : (state : StateView) (name : List ℕ) (list : List Card) (repo : Repo) → FitsIn state name list → repo_of name state.repos ≡ Some repo → length (lists.union repo.list list) ≤ 400000
+pub fits_own : (state : StateView) (name : List ℕ) (list : List Card) (repo : Repo) → FitsIn state name list → repo_of name state.repos ≡ Some repo → length (lists.union repo.list list) ≤ MOST_KNOWN
 fits_own state name list repo f e =
     let named = found_holds (λ q. IsNamedList (lists.union state.known list) q.list) name (map (with_more name list) state.repos) (with_more name list repo) f.valid.lists (found_more name list state.repos repo e) in
     omega (arith, named.few, ap length (list_more state name list repo e))
 
 -- the repositories of a state that fits have lists that aren't too long
-pub fits_all : (state : StateView) (name : List ℕ) (list : List Card) → FitsIn state name list → All (λ repo. length repo.list ≤ 400000) (map (with_more name list) state.repos)
+pub fits_all : (state : StateView) (name : List ℕ) (list : List Card) → FitsIn state name list → All (λ repo. length repo.list ≤ MOST_KNOWN) (map (with_more name list) state.repos)
 fits_all state name list f k d l = let named = f.valid.lists k d l in omega (arith, named.few)
 
 pub at_member : {X Y : Type 0} (P : Y → Type 0) (f : X → Y) (xs : List X) (i : ℕ) (x : X) → All P (map f xs) → i < length xs → x ≡ get_or xs i x → P (f x)

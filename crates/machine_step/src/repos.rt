@@ -4,6 +4,7 @@ ghost use Rattle.ap_host.specs.Disk.{Files};
 ghost use Rattle.command_words.specs.Plain.{repo_create, repo_add, repo_show};
 ghost use Rattle.local_repo.specs.Arrival.{list_of};
 ghost use Rattle.local_repo.specs.Fits.{FitsIn, added, with_more as with_more_of};
+ghost use Rattle.package_list.specs.declared.list.TheConstants.{MOST_KNOWN};
 ghost use Rattle.package_list.specs.Lists.{union};
 ghost use Rattle.machine_state.specs.State.{Valid, repo_of};
 ghost use Rattle.machine_state.specs.declared.arrived.Arrived.{Arrived as ArrivedOf};
@@ -77,7 +78,7 @@ pub(crate) fn create(
 /// All of both lists.
 fn joined(alloc: Global, own: &PackageList, more: &PackageList) -> Result<PackageList, ChangeFault>
     ensures same { IfOk result (λ all. all ≡ union own.now more.now) }
-    ensures fits { length (union own.now more.now) ≤ 400000 → IfErr result IsMemory }
+    ensures fits { length (union own.now more.now) ≤ MOST_KNOWN → IfErr result IsMemory }
 {
     let mut all = own.copy(alloc)?;
     match all.join_known(alloc, more) {
@@ -95,7 +96,7 @@ fn with_more(
     repo: &Repo,
 ) -> Result<Repo, ChangeFault>
     ensures same { IfOk result (λ made. made ≡ with_more_of name.now list.now repo.now) }
-    ensures fits { length (with_more_of name.now list.now repo.now).list ≤ 400000 → IfErr result IsMemory }
+    ensures fits { length (with_more_of name.now list.now repo.now).list ≤ MOST_KNOWN → IfErr result IsMemory }
 {
     let mut made = repo.copy(alloc)?;
     if repo.name.is(name) {
@@ -112,7 +113,7 @@ fn all_with_more(
     repos: &[Repo],
 ) -> Result<Vec<Repo>, ChangeFault>
     ensures same { IfOk result (λ made. made.items ≡ map (with_more_of name.now list.now) repos.now) }
-    ensures fits { All (λ repo. length repo.list ≤ 400000) (map (with_more_of name.now list.now) repos.now) → IfErr result IsMemory }
+    ensures fits { All (λ repo. length repo.list ≤ MOST_KNOWN) (map (with_more_of name.now list.now) repos.now) → IfErr result IsMemory }
 {
     let mut made = Vec::new(alloc);
     for repo in repos {

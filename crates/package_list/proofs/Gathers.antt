@@ -10,6 +10,7 @@ use Rattle.package_core.specs.declared.package.Package.{Package}
 use Rattle.package_core.specs.Card.{triple}
 use Rattle.package_core.specs.Order.{package_cmp, triple_cmp, body_cmp, same_triple}
 use Rattle.package_core.proofs.OrderLaws.{triple_total, package_total, same_triple-is}
+use Rattle.package_list.specs.declared.list.TheConstants.{MOST_MEMBERS}
 use Rattle.package_list.specs.declared.fault.ListFault.{ListFault}
 use Rattle.package_list.specs.declared.fault.ListFault.TheVariants.{Conflict, Full, OutOfMemory}
 use Rattle.package_list.specs.Sorted.{IsBelow, IsAscending, put, placed, union, has}
@@ -94,7 +95,7 @@ by_tests p false false false = refl
 -- what is refused is what an insert refuses
 refused : (before : List Package) (p : Package) → refusal before p ≡ err_part (insert_answer (joined before) p)
 refused before p =
-    let l : Bool = nat_lt (length (joined before)) 200000 in
+    let l : Bool = nat_lt (length (joined before)) MOST_MEMBERS in
     (λ i. cond (has_joined before p i) None (cond (clashes_joined before p i) (Some (Conflict (triple p))) (cond l None (Some Full))))
     ∙ by_tests p (has_member (joined before) p) (clashes (joined before) p) l
 
@@ -212,7 +213,7 @@ clash_found xs p m a h =
 -- a member of p's triple decides
 pub found_decides : (xs : List Package) (p m : Package) → IsStrictlySortedBy triple_cmp xs → find (of_triple p) xs ≡ Some m → insert_answer xs p ≡ cond (is_eq (package_cmp m p)) (Ok false) (Err (Conflict (triple p)))
 found_decides xs p m s h =
-    let l : Bool = nat_lt (length xs) 200000 in
+    let l : Bool = nat_lt (length xs) MOST_MEMBERS in
     (λ i. cond (has_found xs p m (apart xs s) h i) (Ok false) (cond (clash_found xs p m (apart xs s) h i) (Err (Conflict (triple p))) (cond l (Ok true) (Err Full))))
     ∙ by_test (is_eq (package_cmp m p)) l
   where
@@ -225,9 +226,9 @@ pub found_stays : (xs : List Package) (p m : Package) → IsStrictlySortedBy tri
 found_stays xs p m s h e = put_has package_total xs p (ascending_in_all xs (apart xs s)) (has_found xs p m (apart xs s) h ∙ e)
 
 -- with none of p's triple the room decides
-pub none_decides : (xs : List Package) (p : Package) → find (of_triple p) xs ≡ None → insert_answer xs p ≡ cond (nat_lt (length xs) 200000) (Ok true) (Err Full)
+pub none_decides : (xs : List Package) (p : Package) → find (of_triple p) xs ≡ None → insert_answer xs p ≡ cond (nat_lt (length xs) MOST_MEMBERS) (Ok true) (Err Full)
 none_decides xs p h =
-    let l : Bool = nat_lt (length xs) 200000 in
+    let l : Bool = nat_lt (length xs) MOST_MEMBERS in
     (λ i. cond ((has_is_any package_cmp xs p ∙ none_pass p (λ q. is_eq (package_cmp q p)) (equal_inside p) xs h) i) (Ok false) (cond (none_pass p (λ q. clash q p) (clash_inside p) xs h i) (Err (Conflict (triple p))) (cond l (Ok true) (Err Full))))
 
 pub key_is_put : (xs : List Package) (p : Package) → find (of_triple p) xs ≡ None → insert_key triple_cmp xs p ≡ put package_cmp xs p

@@ -2,10 +2,11 @@
 use Rattle.std.proofs.Common.{◌≡◌, ℕ, List, [], ◌∷◌, ◌++◌, take, drop, subst, Bool, true, false, cond, Option, Some, None, refl, sym, ap, ◌∙◌, Ordering, Less, Equal, Greater}
 use Rattle.std.specs.Ordering.{is_eq, ordering_reverse}
 use Rattle.std.specs.List.{filter}
+use Rattle.std.specs.Option.{option_or}
 use Rattle.std.specs.Cmp.{IsTotalOrder}
 use Rattle.std.proofs.lemmas.Bool.{false≢true, true≢false}
 use Rattle.std.proofs.lemmas.List.{take-append-drop}
-use Rattle.package_list.specs.Sorted.{IsBelow, IsAscending, AllLess, StartsAt, placed, put, union, equal_of, or_else, if_equal}
+use Rattle.package_list.specs.Sorted.{IsBelow, IsAscending, AllLess, StartsAt, placed, put, union, equal_of}
 use Rattle.package_list.proofs.SortedLemmas.{put_ascending, below_more, turned, ascending_drop}
 
 module _ {X : Type 0} {R : X → X → Ordering} (o : IsTotalOrder R) where
@@ -20,34 +21,34 @@ module _ {X : Type 0} {R : X → X → Ordering} (o : IsTotalOrder R) where
   none_behind : (x q : X) (xs : List X) → R q x ≡ Less → IsBelow R x xs → equal_of R (x ∷ xs) q ≡ None
   none_behind x q xs h b = rw (after q x h) (none_above q xs (below_more o q x xs h b))
 
-  by_cond : (b : Bool) (x : X) (e p : Option X) → cond b (Some x) (or_else R e p) ≡ or_else R (cond b (Some x) e) p
+  by_cond : (b : Bool) (x : X) (e p : Option X) → cond b (Some x) (option_or e p) ≡ option_or (cond b (Some x) e) p
   by_cond true x e p = refl
   by_cond false x e p = refl
 
-  or_else_none : (e : Option X) → or_else R e None ≡ e
-  or_else_none None = refl
-  or_else_none (Some x) = refl
+  option_or_none : (e : Option X) → option_or e None ≡ e
+  option_or_none None = refl
+  option_or_none (Some x) = refl
 
-  or_else_assoc : (a b c : Option X) → or_else R (or_else R a b) c ≡ or_else R a (or_else R b c)
-  or_else_assoc None b c = refl
-  or_else_assoc (Some x) b c = refl
+  option_or_assoc : (a b c : Option X) → option_or (option_or a b) c ≡ option_or a (option_or b c)
+  option_or_assoc None b c = refl
+  option_or_assoc (Some x) b c = refl
 
-  cond_or : (b : Bool) (y : X) (e : Option X) → or_else R (cond b (Some y) None) e ≡ cond b (Some y) e
+  cond_or : (b : Bool) (y : X) (e : Option X) → option_or (cond b (Some y) None) e ≡ cond b (Some y) e
   cond_or true y e = refl
   cond_or false y e = refl
 
   -- a put adds y, unless an equal is there
-  equal_of_put : (xs : List X) (y q : X) → IsAscending R xs → equal_of R (put R xs y) q ≡ or_else R (equal_of R xs q) (if_equal R y q)
+  equal_of_put : (xs : List X) (y q : X) → IsAscending R xs → equal_of R (put R xs y) q ≡ option_or (equal_of R xs q) (equal_of R (y ∷ []) q)
   equal_of_put [] y q a = refl
   equal_of_put (x ∷ xs) y q a = by_order (R x y) refl (equal_of_put xs y q a.1)
     where
-      found : (b : Bool) (c : Bool) → b ≡ c → (e : Option X) → cond b (Some x) e ≡ or_else R (cond b (Some x) e) (cond c (Some y) None)
+      found : (b : Bool) (c : Bool) → b ≡ c → (e : Option X) → cond b (Some x) e ≡ option_or (cond b (Some x) e) (cond c (Some y) None)
       found true c h e = refl
       found false true h e = absurd (false≢true h)
-      found false false h e = sym (or_else_none e)
+      found false false h e = sym (option_or_none e)
 
-      first : (c : Bool) → is_eq (R y q) ≡ c → R x y ≡ Greater → cond c (Some y) (equal_of R (x ∷ xs) q) ≡ or_else R (equal_of R (x ∷ xs) q) (cond c (Some y) None)
-      first true h g = ap (λ e. or_else R e (Some y)) (sym (none_behind x q xs (below_q h g) a.0))
+      first : (c : Bool) → is_eq (R y q) ≡ c → R x y ≡ Greater → cond c (Some y) (equal_of R (x ∷ xs) q) ≡ option_or (equal_of R (x ∷ xs) q) (cond c (Some y) None)
+      first true h g = ap (λ e. option_or e (Some y)) (sym (none_behind x q xs (below_q h g) a.0))
         where
           is_equal : (r : Ordering) → is_eq r ≡ true → r ≡ Equal
           is_equal Less h = cc
@@ -56,19 +57,19 @@ module _ {X : Type 0} {R : X → X → Ordering} (o : IsTotalOrder R) where
 
           below_q : is_eq (R y q) ≡ true → R x y ≡ Greater → R q x ≡ Less
           below_q h g = sym (o.congr y q x (is_equal (R y q) h)) ∙ turned o x y g
-      first false h g = sym (or_else_none (equal_of R (x ∷ xs) q))
+      first false h g = sym (option_or_none (equal_of R (x ∷ xs) q))
 
-      by_order : (r : Ordering) → R x y ≡ r → equal_of R (put R xs y) q ≡ or_else R (equal_of R xs q) (if_equal R y q) → equal_of R (placed R r x y xs (put R xs y)) q ≡ or_else R (equal_of R (x ∷ xs) q) (if_equal R y q)
-      by_order Less h more = ap (cond (is_eq (R x q)) (Some x)) more ∙ by_cond (is_eq (R x q)) x (equal_of R xs q) (if_equal R y q)
+      by_order : (r : Ordering) → R x y ≡ r → equal_of R (put R xs y) q ≡ option_or (equal_of R xs q) (equal_of R (y ∷ []) q) → equal_of R (placed R r x y xs (put R xs y)) q ≡ option_or (equal_of R (x ∷ xs) q) (equal_of R (y ∷ []) q)
+      by_order Less h more = ap (cond (is_eq (R x q)) (Some x)) more ∙ by_cond (is_eq (R x q)) x (equal_of R xs q) (equal_of R (y ∷ []) q)
       by_order Equal h more = found (is_eq (R x q)) (is_eq (R y q)) (ap is_eq (o.congr x y q h)) (equal_of R xs q)
       by_order Greater h more = first (is_eq (R y q)) refl h
 
   -- of two equals the union has that of the first list
-  pub equal_of_union : (xs ys : List X) (q : X) → IsAscending R xs → equal_of R (union R xs ys) q ≡ or_else R (equal_of R xs q) (equal_of R ys q)
-  equal_of_union xs [] q a = sym (or_else_none (equal_of R xs q))
+  pub equal_of_union : (xs ys : List X) (q : X) → IsAscending R xs → equal_of R (union R xs ys) q ≡ option_or (equal_of R xs q) (equal_of R ys q)
+  equal_of_union xs [] q a = sym (option_or_none (equal_of R xs q))
   equal_of_union xs (y ∷ ys) q a =
-      equal_of_union (put R xs y) ys q (put_ascending o xs y a) ∙ ap (λ e. or_else R e (equal_of R ys q)) (equal_of_put xs y q a)
-      ∙ or_else_assoc (equal_of R xs q) (if_equal R y q) (equal_of R ys q) ∙ ap (or_else R (equal_of R xs q)) (cond_or (is_eq (R y q)) y (equal_of R ys q))
+      equal_of_union (put R xs y) ys q (put_ascending o xs y a) ∙ ap (λ e. option_or e (equal_of R ys q)) (equal_of_put xs y q a)
+      ∙ option_or_assoc (equal_of R xs q) (equal_of R (y ∷ []) q) (equal_of R ys q) ∙ ap (option_or (equal_of R xs q)) (cond_or (is_eq (R y q)) y (equal_of R ys q))
 
   -- the equal of y stands at its place
   equal_of_behind : (pre rest : List X) (y : X) → AllLess R pre y → equal_of R (pre ++ rest) y ≡ equal_of R rest y

@@ -4,6 +4,7 @@ use Rattle.std.specs.Option.{option_or}
 use Rattle.package_core.specs.Card.{Card, triple}
 use Rattle.package_list.specs.declared.fault.ListFault.{ListFault}
 use Rattle.package_list.specs.declared.fault.ListFault.TheVariants.{Conflict, Full, OutOfMemory}
+use Rattle.package_list.specs.declared.list.TheConstants.{MOST_MEMBERS}
 use Rattle.package_list.specs.Lists.{has_member, clashes, union, joined}
 
 abbrev pub FaultIs : {T : Type 0} → ListFault → Result T ListFault → Type 0
@@ -16,12 +17,12 @@ abbrev pub Answers : {T : Type 0} → Result T ListFault → Result T ListFault 
 Answers (Ok x) wanted = wanted ≡ Ok x
 Answers (Err e) wanted = FaultIs e wanted
 
--- False where an equal is there; else the conflict with a member, and then the limit of 200,000 members, is told.
+-- False where an equal is there; else the conflict with a member, and then the limit on members, is told.
 abbrev pub insert_answer : List Card → Card → Result Bool ListFault
 insert_answer xs p =
     if has_member xs p then Ok false
     else if clashes xs p then Err (Conflict (triple p))
-    else if nat_lt (length xs) 200000 then Ok true
+    else if nat_lt (length xs) MOST_MEMBERS then Ok true
     else Err Full
 
 -- at most so many members
@@ -38,15 +39,15 @@ abbrev pub first_clash : List Card → List Card → Option Card
 first_clash all later = find (clashes all) later
 
 abbrev pub append_answer : List Card → List Card → Result (Unit {0}) ListFault
-append_answer xs ys = conflict_or (first_clash (union xs ys) ys) (size_answer 200000 (union xs ys))
+append_answer xs ys = conflict_or (first_clash (union xs ys) ys) (size_answer MOST_MEMBERS (union xs ys))
 
 -- What keeps p from joining those before it: none of them is its equal, and one of them has its triple, or they come to
--- 200,000 members already.
+-- the most members already.
 abbrev pub refusal : List Card → Card → Option ListFault
 refusal before p =
     if has_member before p then None
     else if clashes before p then Some (Conflict (triple p))
-    else if nat_lt (length (joined before)) 200000 then None
+    else if nat_lt (length (joined before)) MOST_MEMBERS then None
     else Some Full
 
 -- why the first of the packages that is refused can't join those before it

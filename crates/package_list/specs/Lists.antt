@@ -1,5 +1,5 @@
 -- What the calls of a list make of it, in terms of its members.
-use Rattle.std.specs.Prelude.{List, [], Bool, IsTrue, ◌&&◌, not, bytes_eq}
+use Rattle.std.specs.Prelude.{List, [], Bool, ◌&&◌, not, bytes_eq}
 use Rattle.std.specs.List.{list_any, filter}
 use Rattle.std.specs.Ordering.{is_eq, is_lt}
 use Rattle.package_core.specs.Card.{Card}
@@ -31,8 +31,8 @@ abbrev pub clashes : List Card → Card → Bool
 clashes xs p = list_any (λ q. clash q p) xs
 
 -- two members have one triple
-abbrev pub Clash : List Card → Type 0
-Clash xs = IsTrue (list_any (clashes xs) xs)
+abbrev pub has_clash : List Card → Bool
+has_clash xs = list_any (clashes xs) xs
 
 -- the two have one name and architecture
 unfoldable pub same_key : Card → Card → Bool

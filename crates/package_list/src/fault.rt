@@ -1,9 +1,9 @@
 //! Why a list refuses.
-ghost use Rattle.std.specs.Prelude.{◌≡◌};
+ghost use Rattle.std.specs.Prelude.{◌≡◌, IfOk};
 ghost use Rattle.package_list.specs.declared.fault.ListFault.TheVariants.{OutOfMemory};
 
 use control_stanza::Text;
-use std::alloc::{AllocError, AllocFailed};
+use std::alloc::{AllocError, AllocFailed, Global};
 
 /// Why a list refuses a package or a further list: the first that holds, in this order.
 #[derive(Drop)]
@@ -14,6 +14,19 @@ pub enum ListFault {
     Full,
     /// Memory ran out.
     OutOfMemory,
+}
+
+impl ListFault {
+    /// The same fault once more. Fails only for want of memory.
+    pub fn copy(&self, alloc: Global) -> Result<ListFault, AllocError>
+        ensures { IfOk result (λ copy. copy ≡ self.now) }
+    {
+        match self {
+            ListFault::Conflict(triple) => Ok(ListFault::Conflict(triple.copy(alloc)?)),
+            ListFault::Full => Ok(ListFault::Full),
+            ListFault::OutOfMemory => Ok(ListFault::OutOfMemory),
+        }
+    }
 }
 
 impl From<AllocError> for ListFault {

@@ -10,7 +10,7 @@ ghost use Rattle.package_list.specs.Answers.{Answers, FaultIs, insert_answer, jo
 
 use crate::by_triple::ByTriple;
 use crate::fault::ListFault;
-use crate::list::MOST;
+use crate::list::MOST_MEMBERS;
 use package_core::{Package, compare_packages};
 use std::alloc::{AllocError, Global};
 use std::collections::BTreeSet;
@@ -50,7 +50,7 @@ fn gather_one(
     ensures answer { Answers result (insert_answer members.old.keys new) }
     ensures ok { OnOk result (members.new.keys ≡ put package_cmp members.old.keys new) }
 {
-    let is_full = members.len() >= MOST;
+    let is_full = members.len() >= MOST_MEMBERS;
     if let Some(member) = members.get(&new) {
         return check_equal(alloc, member.package(), new.package());
     }

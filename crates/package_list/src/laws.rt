@@ -1,8 +1,9 @@
 //! Laws of lists of packages.
 ghost use Rattle.std.specs.Prelude.{◌≡◌, ◌++◌, ◌∷◌, [], List, MatchResult, Some, None};
+ghost use Rattle.std.specs.Option.{option_or};
 ghost use Rattle.package_core.specs.Card.{Card};
 ghost use Rattle.package_core.specs.Order.{package_cmp};
-ghost use Rattle.package_list.specs.Sorted.{IsAscending, equal_of, or_else, put};
+ghost use Rattle.package_list.specs.Sorted.{IsAscending, equal_of, put};
 ghost use Rattle.package_list.specs.Lists.{union, joined};
 ghost use Rattle.package_list.specs.Answers.{insert_answer, refusal};
 
@@ -10,7 +11,7 @@ ghost use Rattle.package_list.specs.Answers.{insert_answer, refusal};
 /// first list's, where it has one.
 pub fn unions_have_what_either_has()
     ensures ascending { (xs : List Card) (ys : List Card) → IsAscending package_cmp xs → IsAscending package_cmp (union xs ys) }
-    ensures members { (xs : List Card) (ys : List Card) (q : Card) → IsAscending package_cmp xs → equal_of package_cmp (union xs ys) q ≡ or_else package_cmp (equal_of package_cmp xs q) (equal_of package_cmp ys q) }
+    ensures members { (xs : List Card) (ys : List Card) (q : Card) → IsAscending package_cmp xs → equal_of package_cmp (union xs ys) q ≡ option_or (equal_of package_cmp xs q) (equal_of package_cmp ys q) }
 {}
 
 /// Packages are joined as if each in turn were inserted into the list of those before it: what keeps one from joining them

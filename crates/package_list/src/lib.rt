@@ -14,4 +14,4 @@ mod reduce;
 
 pub use fault::ListFault;
 pub use laws::{packages_join_in_turn, unions_have_what_either_has};
-pub use list::PackageList;
+pub use list::{MOST_KNOWN, MOST_MEMBERS, PackageList};

@@ -21,10 +21,10 @@ use std::marker::Model;
 use std::rc::Rc;
 
 /// The members that a list may have.
-pub(crate) const MOST: usize = 200_000;
+pub const MOST_MEMBERS: usize = 200_000;
 
 /// The members that the list of all known packages may have.
-const MOST_KNOWN: usize = 400_000;
+pub const MOST_KNOWN: usize = 400_000;
 
 /// A list of packages, seen as its members in the order of packages, of which no two are equal. Packages are shared, so
 /// a copy of a list copies no stanza.
@@ -190,7 +190,7 @@ impl PackageList {
         ensures err { OnErr result (self.new ≡ self.old) }
     {
         let all = apart_union_of(alloc, &self.items, &later.items)?;
-        if all.len() > MOST {
+        if all.len() > MOST_MEMBERS {
             return Err(ListFault::Full);
         }
         self.items = all;
@@ -200,7 +200,7 @@ impl PackageList {
     /// Takes all of another list, members of one triple too; of two equals the own member stays. `Full` exactly where the
     /// union has more than 400,000 members; the list then is as it was.
     pub fn join_known(&mut self, alloc: Global, other: &PackageList) -> Result<(), ListFault>
-        ensures answer { Answers result (size_answer 400000 (union self.old other.now)) }
+        ensures answer { Answers result (size_answer MOST_KNOWN (union self.old other.now)) }
         ensures ok { OnOk result (self.new ≡ union self.old other.now) }
         ensures err { OnErr result (self.new ≡ self.old) }
     {
@@ -215,12 +215,12 @@ impl PackageList {
     /// Drops each own member whose name and architecture the later list has, and takes all of that list. `Full` exactly
     /// where that makes more than 200,000 members; the list then is as it was.
     pub fn merge_from(&mut self, alloc: Global, later: &PackageList) -> Result<(), ListFault>
-        ensures answer { Answers result (size_answer 200000 (merged self.old later.now)) }
+        ensures answer { Answers result (size_answer MOST_MEMBERS (merged self.old later.now)) }
         ensures ok { OnOk result (self.new ≡ merged self.old later.now) }
         ensures err { OnErr result (self.new ≡ self.old) }
     {
         let all = merge_of(alloc, &self.items, &later.items)?;
-        if all.len() > MOST {
+        if all.len() > MOST_MEMBERS {
             return Err(ListFault::Full);
         }
         self.items = all;
@@ -231,12 +231,12 @@ impl PackageList {
     /// greater in the order of packages (Debian Policy 5.6.12). `Full` exactly where that makes more than 200,000 members;
     /// the list then is as it was.
     pub fn latest_from(&mut self, alloc: Global, later: &PackageList) -> Result<(), ListFault>
-        ensures answer { Answers result (size_answer 200000 (latest self.old later.now)) }
+        ensures answer { Answers result (size_answer MOST_MEMBERS (latest self.old later.now)) }
         ensures ok { OnOk result (self.new ≡ latest self.old later.now) }
         ensures err { OnErr result (self.new ≡ self.old) }
     {
         let all = latest_of(alloc, &self.items, &later.items)?;
-        if all.len() > MOST {
+        if all.len() > MOST_MEMBERS {
             return Err(ListFault::Full);
         }
         self.items = all;
@@ -257,7 +257,7 @@ fn insert_into(alloc: Global, items: &mut Vec<Rc<Package>>, new: Package) -> Res
     if clashes_at(items, place, &new) {
         return Err(ListFault::Conflict(new.triple(alloc)?));
     }
-    if items.len() >= MOST {
+    if items.len() >= MOST_MEMBERS {
         return Err(ListFault::Full);
     }
     let new = Rc::new(alloc, new)?;
