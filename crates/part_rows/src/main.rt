@@ -9,6 +9,7 @@ mod indexes;
 mod lists;
 mod names;
 mod packages;
+mod pools;
 mod put;
 mod queries;
 mod refusals;
@@ -40,6 +41,7 @@ fn play(desk: &mut Desk, out: &mut String, line: &str) -> Result<(), Stop> {
         "query" => queries::play(desk, out, call, rest),
         "truth" => truths::play(desk, out, call, rest),
         "package" => packages::play(desk, out, call, rest),
+        "pool" => pools::play(desk, out, call, rest),
         "list" => lists::play(desk, out, call, rest),
         "index" => indexes::play(desk, out, call, rest),
         "words" => words::play(desk, out, call, rest),
