@@ -1,0 +1,140 @@
+//! Calls of package_list.
+
+use crate::desk::Desk;
+use crate::given::{first_word, number_of};
+use crate::packages::package_of;
+use crate::put::{put, put_at, yes_or_no};
+use crate::stop::Stop;
+use package_core::Package;
+use package_list::{ListFault, PackageList};
+use std::alloc::{AllocError, Global};
+
+pub fn play(desk: &mut Desk, out: &mut String, call: &str, rest: &str) -> Result<(), Stop> {
+    match call {
+        "insert" => insert(desk, out),
+        "joined" => joined(desk, out),
+        "merge" | "latest" | "append" | "known" => combine(desk, out, call, rest),
+        "equal" => equal(desk, out, rest),
+        "remove" => remove(desk, out, rest),
+        _ => Err(Stop::NoCall),
+    }
+}
+
+/// Each member with the size of its file.
+fn put_members(out: &mut String, list: &PackageList) -> Result<(), AllocError> {
+    for member in list.as_slice() {
+        let triple = member.triple(*out.allocator())?;
+        put(out, &[" ", triple.as_str()])?;
+        put_at(out, "/", member.said.size)?;
+    }
+    Ok(())
+}
+
+fn put_fault(out: &mut String, fault: &ListFault) -> Result<(), AllocError> {
+    match fault {
+        ListFault::Conflict(triple) => put(out, &["conflict ", triple.as_str()]),
+        ListFault::Full => out.push_str("full"),
+        ListFault::OutOfMemory => out.push_str("out of memory"),
+    }
+}
+
+/// Prints a list that was made, and keeps it under its number.
+fn keep(
+    lists: &mut Vec<PackageList>,
+    out: &mut String,
+    made: Result<PackageList, ListFault>,
+) -> Result<(), Stop> {
+    match made {
+        Ok(list) => {
+            put_at(out, "list ", lists.len() as u64)?;
+            put(out, &[":"])?;
+            put_members(out, &list)?;
+            lists.push(list)?;
+        }
+        Err(fault) => put_fault(out, &fault)?,
+    }
+    Ok(())
+}
+
+fn inserted(alloc: Global, packages: &[Package]) -> Result<PackageList, ListFault> {
+    let mut list = PackageList::new(alloc);
+    for package in packages {
+        list.insert(alloc, package.copy(alloc)?)?;
+    }
+    Ok(list)
+}
+
+/// The held packages, inserted one after the other.
+fn insert(desk: &mut Desk, out: &mut String) -> Result<(), Stop> {
+    let made = inserted(desk.alloc, &desk.packages);
+    keep(&mut desk.lists, out, made)
+}
+
+fn copies(alloc: Global, packages: &[Package]) -> Result<Vec<Package>, AllocError> {
+    let mut made = Vec::new(alloc);
+    for package in packages {
+        made.push(package.copy(alloc)?)?;
+    }
+    Ok(made)
+}
+
+/// The held packages, joined at once.
+fn joined(desk: &mut Desk, out: &mut String) -> Result<(), Stop> {
+    let packages = copies(desk.alloc, &desk.packages)?;
+    let made = PackageList::from_packages(desk.alloc, packages);
+    keep(&mut desk.lists, out, made)
+}
+
+fn list_at<'a>(lists: &'a [PackageList], raw: &str) -> Result<&'a PackageList, Stop> {
+    let number = number_of(raw)?;
+    match lists.get(number as usize) {
+        Some(list) => Ok(list),
+        None => Err(Stop::NoCall),
+    }
+}
+
+/// A copy of the list, to which the later one came.
+fn combined(
+    alloc: Global,
+    call: &str,
+    list: &PackageList,
+    later: &PackageList,
+) -> Result<PackageList, ListFault> {
+    let mut made = list.copy(alloc)?;
+    match call {
+        "merge" => made.merge_from(alloc, later)?,
+        "latest" => made.latest_from(alloc, later)?,
+        "append" => made.append_from(alloc, later)?,
+        _ => made.join_known(alloc, later)?,
+    }
+    Ok(made)
+}
+
+fn combine(desk: &mut Desk, out: &mut String, call: &str, rest: &str) -> Result<(), Stop> {
+    let (list, later) = first_word(rest)?;
+    let list = list_at(&desk.lists, list)?;
+    let later = list_at(&desk.lists, later)?;
+    let made = combined(desk.alloc, call, list, later);
+    keep(&mut desk.lists, out, made)
+}
+
+/// Whether a list has a package, and the size of the equal member's file.
+fn equal(desk: &Desk, out: &mut String, rest: &str) -> Result<(), Stop> {
+    let (list, rest) = first_word(rest)?;
+    let list = list_at(&desk.lists, list)?;
+    let wanted = package_of(desk, rest)?;
+    out.push_str(yes_or_no(list.has(&wanted)))?;
+    if let Some(member) = list.equal_of(&wanted) {
+        put_at(out, " ", member.said.size)?;
+    }
+    Ok(())
+}
+
+/// A copy of a list without a package, and whether it had it.
+fn remove(desk: &mut Desk, out: &mut String, rest: &str) -> Result<(), Stop> {
+    let (list, rest) = first_word(rest)?;
+    let gone = package_of(desk, rest)?;
+    let mut made = list_at(&desk.lists, list)?.copy(desk.alloc)?;
+    put(out, &[yes_or_no(made.remove(&gone)), " "])?;
+    keep(&mut desk.lists, out, Ok(made))
+}

@@ -1,0 +1,128 @@
+//! Calls of ap_text, and of the texts of control_stanza.
+
+use crate::desk::Desk;
+use crate::given::{first_word, number_of};
+use crate::put::{put, put_at, put_bytes, put_order, yes_or_no};
+use crate::stop::Stop;
+use ap_text::{
+    Name, SafePath, TextFault, is_name, is_package_name, is_safe_path, read_decimal, write_decimal,
+};
+use control_stanza::Text;
+use std::alloc::AllocError;
+
+pub fn play_name(desk: &Desk, out: &mut String, call: &str, rest: &str) -> Result<(), Stop> {
+    match call {
+        "read" => read_name(desk, out, rest),
+        "package" => package_name(desk, out, rest),
+        "order" => name_order(desk, out, rest),
+        "texts" => text_order(desk, out, rest),
+        "number" => number(desk, out, rest),
+        _ => Err(Stop::NoCall),
+    }
+}
+
+pub fn play_path(desk: &Desk, out: &mut String, call: &str, rest: &str) -> Result<(), Stop> {
+    match call {
+        "read" => read_path(desk, out, rest),
+        "order" => path_order(desk, out, rest),
+        "made" => made(desk, out, rest),
+        "named" => named(desk, out, rest),
+        _ => Err(Stop::NoCall),
+    }
+}
+
+fn put_fault(out: &mut String, fault: TextFault) -> Result<(), AllocError> {
+    match fault {
+        TextFault::Empty => out.push_str("empty"),
+        TextFault::TooLong => out.push_str("too long"),
+        TextFault::BadByte(place) => put_at(out, "bad byte at ", place),
+        TextFault::OutOfMemory => out.push_str("out of memory"),
+    }
+}
+
+fn read_name(desk: &Desk, out: &mut String, rest: &str) -> Result<(), Stop> {
+    let text = desk.word(rest)?;
+    put(out, &[yes_or_no(is_name(text.as_str())), " "])?;
+    match Name::new(desk.alloc, text.as_str()) {
+        Ok(name) => out.push_str(name.as_str())?,
+        Err(fault) => put_fault(out, fault)?,
+    }
+    Ok(())
+}
+
+fn package_name(desk: &Desk, out: &mut String, rest: &str) -> Result<(), Stop> {
+    let text = desk.word(rest)?;
+    Ok(out.push_str(yes_or_no(is_package_name(text.as_str())))?)
+}
+
+fn name_order(desk: &Desk, out: &mut String, rest: &str) -> Result<(), Stop> {
+    let (left, right) = first_word(rest)?;
+    let a = desk.name(left)?;
+    let b = desk.name(right)?.copy(desk.alloc)?;
+    put_order(out, a.is(&b), a.order(&b))
+}
+
+fn text_order(desk: &Desk, out: &mut String, rest: &str) -> Result<(), Stop> {
+    let (left, right) = first_word(rest)?;
+    let (left, right) = (desk.word(left)?, desk.word(right)?);
+    let a = Text::new(desk.alloc, left.as_str())?;
+    let b = Text::new(desk.alloc, right.as_str())?.copy(desk.alloc)?;
+    put_order(out, a.is(&b), a.order(&b))
+}
+
+/// The number that a word is in decimal, written again.
+fn number(desk: &Desk, out: &mut String, rest: &str) -> Result<(), Stop> {
+    let text = desk.word(rest)?;
+    let Some(number) = read_decimal(text.as_str()) else {
+        return Ok(put(out, &["none"])?);
+    };
+    let mut bytes = Vec::new(desk.alloc);
+    write_decimal(&mut bytes, number)?;
+    put_bytes(out, &bytes)
+}
+
+fn read_path(desk: &Desk, out: &mut String, rest: &str) -> Result<(), Stop> {
+    let text = desk.word(rest)?;
+    put(out, &[yes_or_no(is_safe_path(text.as_str())), " "])?;
+    match SafePath::new(desk.alloc, text.as_str()) {
+        Ok(path) => out.push_str(path.as_str())?,
+        Err(fault) => put_fault(out, fault)?,
+    }
+    Ok(())
+}
+
+fn two_paths(desk: &Desk, rest: &str) -> Result<(SafePath, SafePath), Stop> {
+    let (left, right) = first_word(rest)?;
+    Ok((desk.path(left)?, desk.path(right)?))
+}
+
+/// Whether the two are the same, their order, and whether the first is below the second.
+fn path_order(desk: &Desk, out: &mut String, rest: &str) -> Result<(), Stop> {
+    let (a, b) = two_paths(desk, rest)?;
+    let b = b.copy(desk.alloc)?;
+    put_order(out, a.is(&b), a.order(&b))?;
+    Ok(put(out, &[" ", yes_or_no(a.is_below(&b))])?)
+}
+
+/// A numbered path below a folder, and that one joined to the folder once more.
+fn made(desk: &Desk, out: &mut String, rest: &str) -> Result<(), Stop> {
+    let (folder, number) = first_word(rest)?;
+    let folder = desk.path(folder)?;
+    if folder.as_str().len() > 400 {
+        return Err(Stop::NoCall);
+    }
+    let made = SafePath::numbered(desk.alloc, &folder, number_of(number)?)?;
+    if made.as_str().len() > 500 {
+        return Err(Stop::NoCall);
+    }
+    let joined = SafePath::joined(desk.alloc, &folder, &made)?;
+    put(out, &[made.as_str(), " "])?;
+    Ok(put(out, &[joined.as_str()])?)
+}
+
+/// The path of one segment that a name is.
+fn named(desk: &Desk, out: &mut String, rest: &str) -> Result<(), Stop> {
+    let name = desk.name(rest)?;
+    let path = SafePath::of_name(desk.alloc, &name)?;
+    Ok(put(out, &[path.as_str()])?)
+}

@@ -1,0 +1,134 @@
+//! Calls of query_grammar.
+
+use crate::desk::Desk;
+use crate::put::{put, put_at, put_bytes};
+use crate::relations::put_relation;
+use crate::stop::Stop;
+use query_grammar::{Query, QueryFault, QueryKind, Test, read_filter, read_query, write_query};
+use std::alloc::AllocError;
+
+pub fn play(desk: &Desk, out: &mut String, call: &str, rest: &str) -> Result<(), Stop> {
+    let text = desk.text(rest)?;
+    match call {
+        "tree" => tree(desk, out, text.as_str()),
+        "write" => write(out, &read_query(desk.alloc, text.as_str())),
+        "filter" => write(out, &read_filter(desk.alloc, text.as_str())),
+        _ => Err(Stop::NoCall),
+    }
+}
+
+fn kind_text(kind: QueryKind) -> &'static str {
+    match kind {
+        QueryKind::TooDeep => "too deep",
+        QueryKind::WantTerm => "want term",
+        QueryKind::BadOperator => "bad operator",
+        QueryKind::BadVersion => "bad version",
+        QueryKind::WantClose => "want close",
+        QueryKind::WantValue => "want value",
+        QueryKind::Trailing => "trailing",
+        QueryKind::TooLong => "too long",
+    }
+}
+
+fn put_fault(out: &mut String, fault: QueryFault) -> Result<(), AllocError> {
+    match fault {
+        QueryFault::At { place, kind } => {
+            put_at(out, "at ", place)?;
+            put(out, &[": ", kind_text(kind)])
+        }
+        QueryFault::OutOfMemory => out.push_str("out of memory"),
+    }
+}
+
+fn test_text(test: Test) -> &'static str {
+    match test {
+        Test::Equal => "=",
+        Test::Less => "<<",
+        Test::LessEqual => "<=",
+        Test::GreaterEqual => ">=",
+        Test::Greater => ">>",
+        Test::Glob => "%",
+        Test::Pattern => "~",
+    }
+}
+
+/// A query as a tree, each term with its kind.
+#[cycle(put)]
+fn put_tree(out: &mut String, query: &Query) -> Result<(), AllocError> {
+    match query {
+        Query::Any(queries) => put_branches(out, "any", queries),
+        Query::All(queries) => put_branches(out, "all", queries),
+        Query::Not(inner) => {
+            put(out, &["not("])?;
+            put_tree(out, inner)?;
+            put(out, &[")"])
+        }
+        Query::Reference {
+            name,
+            version,
+            arch,
+        } => put(
+            out,
+            &[
+                "reference ",
+                name.as_str(),
+                " ",
+                version.as_str(),
+                " ",
+                arch.as_str(),
+            ],
+        ),
+        Query::Wanted {
+            name,
+            relation,
+            arch,
+        } => {
+            put(out, &["wanted ", name.as_str()])?;
+            put_relation(out, relation)?;
+            match arch {
+                Some(arch) => put(out, &[" {", arch.as_str(), "}"]),
+                None => Ok(()),
+            }
+        }
+        Query::Field { field, test } => {
+            put(out, &["field ", field.as_str()])?;
+            match test {
+                Some((test, value)) => {
+                    put(out, &[" (", test_text(*test), " "])?;
+                    put(out, &[value.as_str(), ")"])
+                }
+                None => Ok(()),
+            }
+        }
+    }
+}
+
+#[cycle(put)]
+fn put_branches(out: &mut String, kind: &str, queries: &[Query]) -> Result<(), AllocError> {
+    put(out, &[kind, "("])?;
+    for i in 0..queries.len() {
+        put(out, &[if i == 0 { "" } else { "; " }])?;
+        put_tree(out, &queries[i])?;
+    }
+    put(out, &[")"])
+}
+
+fn tree(desk: &Desk, out: &mut String, text: &str) -> Result<(), Stop> {
+    match read_query(desk.alloc, text) {
+        Ok(query) => put_tree(out, &query.copy(desk.alloc)?)?,
+        Err(fault) => put_fault(out, fault)?,
+    }
+    Ok(())
+}
+
+/// The text of a query that was read.
+fn write(out: &mut String, read: &Result<Query, QueryFault>) -> Result<(), Stop> {
+    match read {
+        Ok(query) => {
+            let mut text = Vec::new(*out.allocator());
+            write_query(&mut text, query)?;
+            put_bytes(out, &text)
+        }
+        Err(fault) => Ok(put_fault(out, *fault)?),
+    }
+}

@@ -1,0 +1,40 @@
+//! Calls of catalogue_text.
+
+use crate::desk::Desk;
+use crate::put::{put, put_at};
+use crate::stop::Stop;
+use catalogue_text::{RootFault, read_root, root_text};
+use machine_state::{Repo, State};
+use std::alloc::AllocError;
+
+fn put_repos(out: &mut String, repos: &[Repo]) -> Result<(), AllocError> {
+    for repo in repos {
+        put(out, &[", repo ", repo.name.as_str()])?;
+        put_at(out, " of ", repo.list.len() as u64)?;
+    }
+    Ok(())
+}
+
+/// How many packages are known, the repositories, and whether the state's text is this one.
+fn put_state(out: &mut String, state: &State, text: &[u8]) -> Result<(), AllocError> {
+    put_at(out, "known ", state.known.len() as u64)?;
+    put_repos(out, &state.repos)?;
+    let again = root_text(*out.allocator(), state)?;
+    if again.as_str().as_bytes() != text {
+        out.push_str(", written otherwise")?;
+    }
+    Ok(())
+}
+
+pub fn play(desk: &Desk, out: &mut String, call: &str, rest: &str) -> Result<(), Stop> {
+    let "read" = call else {
+        return Err(Stop::NoCall);
+    };
+    let bytes = desk.bytes(rest)?;
+    match read_root(desk.alloc, &bytes) {
+        Ok(state) => put_state(out, &state.copy(desk.alloc)?, &bytes)?,
+        Err(RootFault::At { line }) => put_at(out, "line ", line)?,
+        Err(RootFault::OutOfMemory) => out.push_str("out of memory")?,
+    }
+    Ok(())
+}

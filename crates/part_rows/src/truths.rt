@@ -1,0 +1,108 @@
+//! Calls of query_eval and package_relations.
+
+use crate::desk::Desk;
+use crate::given::{first_word, number_of};
+use crate::put::{put_at, yes_or_no};
+use crate::stop::Stop;
+use depends_field::{Alternative, read_depends};
+use package_relations::satisfies;
+use query_eval::{EvalFault, MemPatterns, Prepared, RegexPatterns, glob_matches};
+use query_grammar::{Query, read_query};
+use std::alloc::AllocError;
+
+pub fn play(desk: &Desk, out: &mut String, call: &str, rest: &str) -> Result<(), Stop> {
+    match call {
+        "of" => of(desk, out, rest),
+        "failing" => failing(desk, out, rest),
+        "satisfied" => satisfied(desk, out, rest),
+        "glob" => glob(desk, out, rest),
+        _ => Err(Stop::NoCall),
+    }
+}
+
+fn put_fault(out: &mut String, fault: EvalFault) -> Result<(), AllocError> {
+    match fault {
+        EvalFault::BadPattern(test) => put_at(out, "bad pattern ", test),
+        EvalFault::PatternTooLarge(test) => put_at(out, "too large pattern ", test),
+        EvalFault::OutOfMemory => out.push_str("out of memory"),
+    }
+}
+
+/// A query that has to be readable.
+fn query_of(desk: &Desk, rest: &str) -> Result<Query, Stop> {
+    match read_query(desk.alloc, desk.text(rest)?.as_str()) {
+        Ok(query) => Ok(query),
+        Err(_) => Err(Stop::NoCall),
+    }
+}
+
+fn mark_of(holds: bool) -> char {
+    if holds { 'x' } else { '-' }
+}
+
+/// An `x` for each held package of which the query is true.
+fn put_marks(desk: &Desk, out: &mut String, prepared: &Prepared) -> Result<(), AllocError> {
+    for package in desk.packages.iter() {
+        out.push(mark_of(prepared.matches(desk.alloc, package)?))?;
+    }
+    Ok(())
+}
+
+fn of(desk: &Desk, out: &mut String, rest: &str) -> Result<(), Stop> {
+    let query = query_of(desk, rest)?;
+    let mut patterns = RegexPatterns::new(desk.alloc);
+    match Prepared::new(desk.alloc, &query, &mut patterns) {
+        Ok(prepared) => put_marks(desk, out, &prepared)?,
+        Err(fault) => put_fault(out, fault)?,
+    }
+    Ok(())
+}
+
+/// A builder that finds the pattern of this ordinal, counted from 0, too large.
+fn failing_at(desk: &Desk, raw: &str) -> Result<MemPatterns, Stop> {
+    let mut failing = Vec::new(desk.alloc);
+    failing.push(number_of(raw)?)?;
+    Ok(MemPatterns::new(desk.alloc, failing))
+}
+
+fn failing(desk: &Desk, out: &mut String, rest: &str) -> Result<(), Stop> {
+    let (ordinal, rest) = first_word(rest)?;
+    let mut patterns = failing_at(desk, ordinal)?;
+    let query = query_of(desk, rest)?;
+    match Prepared::new(desk.alloc, &query, &mut patterns) {
+        Ok(_) => out.push_str("prepared")?,
+        Err(fault) => put_fault(out, fault)?,
+    }
+    Ok(())
+}
+
+/// The first alternative of a field that has to be readable.
+fn alternative_of(desk: &Desk, rest: &str) -> Result<Alternative, Stop> {
+    let Ok(groups) = read_depends(desk.alloc, desk.text(rest)?.as_str()) else {
+        return Err(Stop::NoCall);
+    };
+    let Some(group) = groups.first() else {
+        return Err(Stop::NoCall);
+    };
+    match group.alternatives.first() {
+        Some(alternative) => Ok(alternative.copy(desk.alloc)?),
+        None => Err(Stop::NoCall),
+    }
+}
+
+/// An architecture and an alternative: an `x` for each held package that satisfies it.
+fn satisfied(desk: &Desk, out: &mut String, rest: &str) -> Result<(), Stop> {
+    let (arch, rest) = first_word(rest)?;
+    let arch = desk.name(arch)?;
+    let alternative = alternative_of(desk, rest)?;
+    for package in desk.packages.iter() {
+        out.push(mark_of(satisfies(desk.alloc, package, &alternative, &arch)?))?;
+    }
+    Ok(())
+}
+
+fn glob(desk: &Desk, out: &mut String, rest: &str) -> Result<(), Stop> {
+    let (pattern, text) = first_word(rest)?;
+    let (pattern, text) = (desk.word(pattern)?, desk.word(text)?);
+    Ok(out.push_str(yes_or_no(glob_matches(pattern.as_str(), text.as_str())))?)
+}

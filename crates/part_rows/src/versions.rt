@@ -1,0 +1,102 @@
+//! Calls of deb_version.
+
+use crate::desk::Desk;
+use crate::given::first_word;
+use crate::put::{put, put_at, put_order, sign_of};
+use crate::stop::Stop;
+use deb_version::{Relation, Version, VersionFault, compare, meets};
+use std::alloc::AllocError;
+
+pub fn play(desk: &Desk, out: &mut String, call: &str, rest: &str) -> Result<(), Stop> {
+    match call {
+        "read" => read(desk, out, rest),
+        "order" => order(desk, out, rest),
+        "meets" => met(desk, out, rest),
+        "texts" => texts(desk, out, rest),
+        _ => Err(Stop::NoCall),
+    }
+}
+
+fn put_fault(out: &mut String, fault: VersionFault) -> Result<(), AllocError> {
+    match fault {
+        VersionFault::BadEpoch => out.push_str("bad epoch"),
+        VersionFault::Empty => out.push_str("empty"),
+        VersionFault::BadByte(place) => put_at(out, "bad byte at ", place),
+        VersionFault::OutOfMemory => out.push_str("out of memory"),
+    }
+}
+
+fn put_version(out: &mut String, version: &Version) -> Result<(), AllocError> {
+    put(out, &["version ", version.as_str()])
+}
+
+type Read = Result<Version, VersionFault>;
+
+fn read(desk: &Desk, out: &mut String, rest: &str) -> Result<(), Stop> {
+    let text = desk.word(rest)?;
+    match Version::parse(desk.alloc, text.as_str()) {
+        Ok(version) => put_version(out, &version.copy(desk.alloc)?)?,
+        Err(fault) => put_fault(out, fault)?,
+    }
+    Ok(())
+}
+
+fn two(desk: &Desk, rest: &str) -> Result<(Read, Read), Stop> {
+    let (left, right) = first_word(rest)?;
+    let first = Version::parse(desk.alloc, desk.word(left)?.as_str());
+    let second = Version::parse(desk.alloc, desk.word(right)?.as_str());
+    Ok((first, second))
+}
+
+/// The sign between two versions, or which of them is none.
+fn order(desk: &Desk, out: &mut String, rest: &str) -> Result<(), Stop> {
+    let (first, second) = two(desk, rest)?;
+    let answer = match (&first, &second) {
+        (Ok(a), Ok(b)) => sign_of(compare(a, b)),
+        (Err(_), Ok(_)) => "first",
+        (Ok(_), Err(_)) => "second",
+        (Err(_), Err(_)) => "both",
+    };
+    Ok(out.push_str(answer)?)
+}
+
+/// How a relation is written.
+pub fn relation_text(relation: Relation) -> &'static str {
+    match relation {
+        Relation::Earlier => "<<",
+        Relation::EarlierEqual => "<=",
+        Relation::Equal => "=",
+        Relation::LaterEqual => ">=",
+        Relation::Later => ">>",
+    }
+}
+
+const RELATIONS: [Relation; 5] = [
+    Relation::Earlier,
+    Relation::EarlierEqual,
+    Relation::Equal,
+    Relation::LaterEqual,
+    Relation::Later,
+];
+
+/// The relations in which the first version stands to the second.
+fn met(desk: &Desk, out: &mut String, rest: &str) -> Result<(), Stop> {
+    let (first, second) = two(desk, rest)?;
+    let (Ok(a), Ok(b)) = (&first, &second) else {
+        return Err(Stop::NoCall);
+    };
+    for relation in RELATIONS {
+        if meets(a, relation, b) {
+            put(out, &[relation_text(relation), " "])?;
+        }
+    }
+    Ok(())
+}
+
+fn texts(desk: &Desk, out: &mut String, rest: &str) -> Result<(), Stop> {
+    let (first, second) = two(desk, rest)?;
+    let (Ok(a), Ok(b)) = (&first, &second) else {
+        return Err(Stop::NoCall);
+    };
+    put_order(out, a.is(b), a.text_order(b))
+}

@@ -1,0 +1,41 @@
+//! Calls of command_words.
+
+use crate::commands::put_command;
+use crate::desk::Desk;
+use crate::put::{put, put_at};
+use crate::stop::Stop;
+use command_words::{Command, WordFault, Words, read_words};
+use std::alloc::AllocError;
+
+/// The words between the blanks; none where there is nothing at all.
+fn words_of(desk: &Desk, rest: &str) -> Result<Words, Stop> {
+    let mut words = Words::new(desk.alloc);
+    if rest.is_empty() {
+        return Ok(words);
+    }
+    for raw in rest.split(' ') {
+        words.push(desk.word(raw)?.as_str())?;
+    }
+    Ok(words)
+}
+
+fn put_commands(out: &mut String, commands: &[Command]) -> Result<(), AllocError> {
+    for command in commands {
+        put_command(out, command)?;
+        put(out, &["\n"])?;
+    }
+    Ok(())
+}
+
+pub fn play(desk: &Desk, out: &mut String, call: &str, rest: &str) -> Result<(), Stop> {
+    let "read" = call else {
+        return Err(Stop::NoCall);
+    };
+    let words = words_of(desk, rest)?;
+    match read_words(desk.alloc, &words) {
+        Ok(commands) => put_commands(out, &commands)?,
+        Err(WordFault::At { place }) => put_at(out, "at ", place)?,
+        Err(WordFault::OutOfMemory) => out.push_str("out of memory")?,
+    }
+    Ok(())
+}
