@@ -3,8 +3,9 @@ use ap_text::Name;
 use control_stanza::read_stanzas;
 use depends_field::read_depends;
 use package_core::Package;
+use package_relations::satisfies;
 use query_eval::{
-    EvalFault, MemPatterns, PatternErr, Patterns, Prepared, RegexPatterns, glob_matches, satisfies,
+    EvalFault, MemPatterns, PatternErr, Patterns, Prepared, RegexPatterns, glob_matches,
 };
 use query_grammar::read_query;
 use regex::Regex;

@@ -11,14 +11,14 @@ use Rattle.query_eval.specs.Build.{IsReadFrom}
 use Rattle.query_eval.specs.Conditions.{IsPattern}
 use Rattle.query_eval.specs.Truth.{finds, is_found}
 
-abbrev Read : Re → Names → Nested Re → Names → Type 0
+abbrev pub Read : Re → Names → Nested Re → Names → Type 0
 Read re names x found = (x.depth ≤ default_config.nest_limit) × SameCaptures re x.value × (names ≡ found) × (group_count re ≤ length names)
 
 finds_by : (o : Option (Nested Re × Names)) (re : Re) (names : Names) (value : List ℕ) → ((k : ℕ) → get_or value k 0 < 256) → IsSomeAnd o (λ (x, found). Read re names x found) → is_some (find_str re value 0) ≡ finds o value
 finds_by None re names value bytes h = absurd h
 finds_by (Some (x, found)) re names value bytes h = is_match_alike h.1 value bytes true 0
 
-shallow : (o : Option (Nested Re × Names)) (re : Re) (names : Names) → IsSomeAnd o (λ (x, found). Read re names x found) → IsSomeAnd o (λ (x, found). x.depth ≤ default_config.nest_limit)
+pub shallow : (o : Option (Nested Re × Names)) (re : Re) (names : Names) → IsSomeAnd o (λ (x, found). Read re names x found) → IsSomeAnd o (λ (x, found). x.depth ≤ default_config.nest_limit)
 shallow None re names h = absurd h
 shallow (Some (x, found)) re names h = h.0
 

@@ -1,5 +1,5 @@
 -- Shell patterns as the code reads them, step by step.
-use Rattle.std.specs.Prelude.{ℕ, ◌<◌, Bool, true, false, not, ◌&&◌, ◌||◌, ◌==◌, List, [], ◌∷◌, length, Option, Some, None, if◌then◌else◌}
+use Rattle.std.specs.Prelude.{ℕ, ◌<◌, Bool, true, false, not, ◌&&◌, ◌||◌, ◌==◌, List, [], ◌∷◌, length, Option, Some, None, is_some, if◌then◌else◌}
 use Rattle.std.specs.Str.{chars}
 use Rattle.query_eval.specs.declared.letter.Letter.{Letter}
 use Rattle.query_eval.specs.declared.letter.Reading.{Reading}
@@ -42,6 +42,10 @@ abbrev pub letters_from : At → List Letter
 letters_from (letter l cs) = l ∷ class_letters false cs
 letters_from (end cs) = []
 letters_from missing = []
+
+-- a `]` in the characters ends a class that goes on with them
+abbrev pub has_class_end : List ℕ → Bool
+has_class_end cs = is_some (class_end false cs)
 
 -- letters that were read and not yet judged stand before those to come
 abbrev pub held_letters : Held → List Letter → List Letter

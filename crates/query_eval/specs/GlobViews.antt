@@ -19,10 +19,10 @@ begun_view e rest = (element_view e, chars rest)
 
 abbrev pub front_view : Front → reading.Front
 front_view Whole = reading.whole
-front_view (Star pattern text) = reading.star (glob.elements_of (chars pattern.now)) (chars text.now)
+front_view (Star pattern text) = reading.star (glob.elements_of (chars pattern.text.now)) (chars text.now)
 front_view Fails = reading.fails
 
 abbrev pub IsNearer : Front → List ℕ → List ℕ → Type 0
 IsNearer Whole pattern text = Unit {0}
-IsNearer (Star behind rest) pattern text = (length behind.now < length pattern) × (length rest.now ≤ length text)
+IsNearer (Star behind rest) pattern text = (length behind.text.now < length pattern) × (length rest.now ≤ length text)
 IsNearer Fails pattern text = Unit {0}

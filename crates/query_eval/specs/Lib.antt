@@ -1,8 +1,8 @@
 pub mod Build
+pub mod Builders
 pub mod Glob
 pub mod GlobReading
 pub mod GlobViews
-pub mod Satisfies
 pub mod Truth
 pub mod Conditions
 pub mod Preparing

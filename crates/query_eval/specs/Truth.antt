@@ -1,16 +1,17 @@
 -- When a query is true of a package (aptly manual, package query syntax).
 use Rattle.std.specs.Prelude.{ℕ, Bool, true, false, not, ◌&&◌, ◌||◌, bytes_eq, List, length, nat_lt, codes, Option, Some, None, is_some, if◌then◌else◌}
-use Rattle.std.specs.declared.cmp.Ordering.{Ordering}
-use Rattle.std.specs.Ordering.{nat_cmp, is_lt, is_le, is_eq, is_ge, is_gt}
+use Rattle.std.specs.Ordering.{nat_cmp}
 use Rattle.std.specs.Cmp.Lexicographic.{slice_cmp}
 use Rattle.std.specs.Str.{chars}
 use Rattle.control_stanza.specs.Fields.{value_of}
 use Rattle.deb_version.specs.declared.order.Relation.{Relation}
 use Rattle.deb_version.specs.declared.order.Relation.TheVariants as relation
-use Rattle.deb_version.specs.VersionOrder.{meets}
+use Rattle.deb_version.specs.VersionOrder.{holds, meets}
 use Rattle.deb_version.specs.VersionText.{is_version}
 use Rattle.package_core.specs.Card.{Card, source_of}
 use Rattle.package_core.specs.Fields.{is_of_file}
+use Rattle.package_core.specs.Architecture.{is_for}
+use Rattle.package_relations.specs.Satisfies.{is_wanted}
 use Rattle.query_tree.specs.declared.query.Test.{Test}
 use Rattle.query_tree.specs.declared.query.Test.TheVariants.{Equal, Less, LessEqual, GreaterEqual, Greater, Glob, Pattern}
 use Rattle.query_tree.specs.Tree.{Tree, Trees, any, all, negated, reference, wanted, field, nil, cons}
@@ -19,7 +20,6 @@ use Rattle.regex_syntax.specs.Brackets.{Nested}
 use Rattle.regex_syntax.specs.Grammar.{Names, read}
 use Rattle.query_eval.specs.Glob.{elements_of}
 use Rattle.query_eval.specs.GlobReading.{covers}
-use Rattle.query_eval.specs.Satisfies.{is_wanted, is_for}
 
 -- The value of a field, if it is there. Names that begin with `$` are of the package and not of its stanza. The fields
 -- that speak of the file are no part of a package.
@@ -33,14 +33,6 @@ value_in p name =
     else if bytes_eq name (codes "$PackageType") then Some (codes "deb")
     else if is_of_file name then None
     else value_of p.stanza name
-
--- the order is the one that is asked for
-abbrev pub is_order : Relation → Ordering → Bool
-is_order relation.Earlier o = is_lt o
-is_order relation.EarlierEqual o = is_le o
-is_order relation.Equal o = is_eq o
-is_order relation.LaterEqual o = is_ge o
-is_order relation.Later o = is_gt o
 
 -- A version stands in the relation to a text that is a version, by the order of versions.
 abbrev pub version_compares : Relation → List ℕ → List ℕ → Bool
@@ -56,7 +48,7 @@ is_for_all relation.Later arch = false
 
 -- by bytes
 abbrev pub text_compares : Relation → List ℕ → List ℕ → Bool
-text_compares asked value text = is_order asked (slice_cmp nat_cmp value text)
+text_compares asked value text = holds asked (slice_cmp nat_cmp value text)
 
 -- The value of a field stands in the relation to a text: `$Version` by the order of versions, all others by bytes; `=`
 -- of `$Architecture` also where the package is for all architectures.

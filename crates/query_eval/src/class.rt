@@ -9,13 +9,13 @@ ghost use Rattle.query_eval.specs.declared.letter.Letter.{Letter};
 
 use crate::letter::{Letter, Reading, next_letter};
 
-/// What follows the class that begins with this text, behind its `]`.
+/// What follows the class that begins with this text, or goes on with it, behind its `]`.
 #[tactic(auto, using(crate::proofs::ClassFacts::end_step))]
-pub(crate) fn behind_class(text: &str) -> Option<&str>
-    ensures value { option_map (λ rest. chars rest.now) result ≡ class_end true (chars text.now) }
+pub(crate) fn behind_class(begins: bool, text: &str) -> Option<&str>
+    ensures value { option_map (λ rest. chars rest.now) result ≡ class_end begins (chars text.now) }
     ensures shorter { IfSome result (λ rest. length rest.now ≤ length text.now) }
 {
-    let mut first = true;
+    let mut first = begins;
     let mut left = text;
     'letters: loop {
         match next_letter(first, left) {

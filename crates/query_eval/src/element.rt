@@ -1,11 +1,13 @@
 //! The elements of shell patterns.
 
-ghost use Rattle.std.specs.Prelude.{◌≡◌, ◌≤◌, ◌<◌, ◌∷◌, [], length, MatchOption};
+ghost use Rattle.std.specs.Prelude.{◌≡◌, ◌≤◌, ◌<◌, ◌∷◌, [], length, MatchOption, IsTrue, IsFalse};
 ghost use Rattle.std.specs.Str.{chars};
 ghost use Rattle.query_eval.specs.Glob.{is_negated, behind_negation, escaped_one, opened as opened_class, elements_of, takes as takes_it, first_element as first_of};
+ghost use Rattle.query_eval.specs.GlobReading.{has_class_end};
 ghost use Rattle.query_eval.specs.GlobViews.{element_view, begun_view};
 
 use crate::class::{behind_class, is_in_class};
+use crate::glob_end::GlobEnd;
 use crate::letter::split_first_char;
 
 /// An element of a pattern: any run of characters, any one, this one, or one of a class or not of it, whose characters
@@ -35,55 +37,69 @@ fn negation(text: &str) -> (bool, &str)
     }
 }
 
-fn opened(text: &str) -> (Element<'_>, &str)
-    ensures value { begun_view result.0 result.1.now ≡ opened_class (chars text.now) }
-    ensures shorter { length result.1.now ≤ length text.now }
+/// Behind a `[`. Where the class has no end, the pattern is looked through once more, so that it isn't for each `[`.
+#[tactic(auto, using(crate::proofs::EndFacts::no_class))]
+fn opened(rest: GlobEnd<'_>) -> (Element<'_>, GlobEnd<'_>)
+    ensures value { begun_view result.0 result.1.text.now ≡ opened_class (chars rest.entry.text.now) }
+    ensures shorter { length result.1.text.now ≤ length rest.entry.text.now }
 {
-    let (negated, letters) = negation(text);
-    match behind_class(letters) {
-        None => (Element::Exactly('['), text),
-        Some(behind) => (Element::Class { negated, letters }, behind),
+    if rest.is_open {
+        return (Element::Exactly('['), rest);
+    }
+    let (negated, letters) = negation(rest.text);
+    match behind_class(true, letters) {
+        None => (Element::Exactly('['), GlobEnd::new(rest.text)),
+        Some(behind) => (
+            Element::Class { negated, letters },
+            GlobEnd::unknown(behind),
+        ),
     }
 }
 
-fn escaped(text: &str) -> (Element<'_>, &str)
-    ensures value { begun_view result.0 result.1.now ≡ escaped_one (chars text.now) }
-    ensures shorter { length result.1.now ≤ length text.now }
+/// Behind a `\\`.
+fn escaped(rest: &str, is_open: bool) -> (Element<'_>, GlobEnd<'_>)
+    requires { IsTrue is_open → IsFalse (has_class_end (92 ∷ chars rest.now)) }
+    ensures value { begun_view result.0 result.1.text.now ≡ escaped_one (chars rest.now) }
+    ensures shorter { length result.1.text.now ≤ length rest.now }
 {
-    match split_first_char(text) {
-        None => (Element::Exactly('\\'), text),
-        Some((c, rest)) => (Element::Exactly(c), rest),
+    match split_first_char(rest) {
+        None => (Element::Exactly('\\'), GlobEnd::new(rest)),
+        Some((c, behind)) => (
+            Element::Exactly(c),
+            GlobEnd::behind_escaped(c, behind, is_open),
+        ),
     }
 }
 
 #[tactic(auto, unfolding(crate::specs::Glob::first_element))]
-fn element_from(c: char, rest: &str) -> (Element<'_>, &str)
-    ensures value { begun_view result.0 result.1.now ≡ first_of c (chars rest.now) }
-    ensures shorter { length result.1.now ≤ length rest.now }
+fn element_from(c: char, rest: &str, is_open: bool) -> (Element<'_>, GlobEnd<'_>)
+    requires { IsTrue is_open → IsFalse (has_class_end (c ∷ chars rest.now)) }
+    ensures value { begun_view result.0 result.1.text.now ≡ first_of c (chars rest.now) }
+    ensures shorter { length result.1.text.now ≤ length rest.now }
 {
     if c == '*' {
-        return (Element::Run, rest);
+        return (Element::Run, GlobEnd::behind(c, rest, is_open));
     }
     if c == '?' {
-        return (Element::One, rest);
+        return (Element::One, GlobEnd::behind(c, rest, is_open));
     }
     if c == '\\' {
-        return escaped(rest);
+        return escaped(rest, is_open);
     }
     if c == '[' {
-        return opened(rest);
+        return opened(GlobEnd::behind(c, rest, is_open));
     }
-    (Element::Exactly(c), rest)
+    (Element::Exactly(c), GlobEnd::behind(c, rest, is_open))
 }
 
 /// The first element of a pattern, and the pattern behind it.
 #[tactic(auto, using(crate::proofs::ElementFacts::elements_step, crate::proofs::ElementFacts::elements_none))]
-pub(crate) fn first_element(pattern: &str) -> Option<(Element<'_>, &str)>
-    ensures { MatchOption result (elements_of (chars pattern.now) ≡ []) (λ (e, rest). (elements_of (chars pattern.now) ≡ element_view e ∷ elements_of (chars rest.now)) × (length rest.now < length pattern.now)) }
+pub(crate) fn first_element(pattern: GlobEnd<'_>) -> Option<(Element<'_>, GlobEnd<'_>)>
+    ensures { MatchOption result (elements_of (chars pattern.entry.text.now) ≡ []) (λ (e, rest). (elements_of (chars pattern.entry.text.now) ≡ element_view e ∷ elements_of (chars rest.text.now)) × (length rest.text.now < length pattern.entry.text.now)) }
 {
-    match split_first_char(pattern) {
+    match split_first_char(pattern.text) {
         None => None,
-        Some((c, rest)) => Some(element_from(c, rest)),
+        Some((c, rest)) => Some(element_from(c, rest, pattern.is_open)),
     }
 }
 

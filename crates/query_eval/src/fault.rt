@@ -17,6 +17,15 @@ pub enum EvalFault {
     OutOfMemory,
 }
 
+impl EvalFault {
+    /// The same fault once more.
+    pub fn copy(&self) -> EvalFault
+        ensures { result ≡ self.now }
+    {
+        *self
+    }
+}
+
 impl From<AllocError> for EvalFault {
     ghost from_gives = { λ _ e. e ≡ OutOfMemory };
 

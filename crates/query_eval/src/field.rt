@@ -2,26 +2,11 @@
 
 ghost use Rattle.std.specs.Prelude.{◌≡◌, IfOk, Some};
 ghost use Rattle.std.specs.Option.{option_copied};
-ghost use Rattle.package_core.specs.Fields.{is_of_file as of_file};
-ghost use Rattle.query_eval.specs.Truth.{value_in, is_order as in_order, version_compares, is_for_all as for_all, text_compares, compares as stands_so, is_globbed};
+ghost use Rattle.query_eval.specs.Truth.{value_in, version_compares, is_for_all as for_all, text_compares, compares as stands_so, is_globbed};
 
 use deb_version::{Relation, Version, VersionFault, meets};
-use package_core::Package;
+use package_core::{Package, is_file_field};
 use std::alloc::{AllocError, Global};
-use std::cmp::Ordering;
-
-/// Whether the field is of the file and no part of a package.
-#[tactic(auto, unfolding(control_stanza::specs::Fields::same_name))]
-fn is_of_file(name: &str) -> bool
-    ensures { result ≡ of_file name.now }
-{
-    name.eq_ignore_ascii_case("Filename")
-        || name.eq_ignore_ascii_case("Size")
-        || name.eq_ignore_ascii_case("MD5sum")
-        || name.eq_ignore_ascii_case("SHA1")
-        || name.eq_ignore_ascii_case("SHA256")
-        || name.eq_ignore_ascii_case("SHA512")
-}
 
 /// The value of a field, if it is there.
 #[tactic(auto, unfolding(crate::specs::Truth::value_in))]
@@ -36,24 +21,12 @@ pub(crate) fn value_of<'p>(candidate: &'p Package, name: &str) -> Option<&'p str
         "$SourceVersion" => Some(candidate.source().1),
         "$PackageType" => Some("deb"),
         _ => {
-            if is_of_file(name) {
+            if is_file_field(name) {
                 None
             } else {
                 candidate.stanza.get(name)
             }
         }
-    }
-}
-
-fn is_order(asked: Relation, order: Ordering) -> bool
-    ensures { result ≡ in_order asked order }
-{
-    match asked {
-        Relation::Earlier => order.is_lt(),
-        Relation::EarlierEqual => order.is_le(),
-        Relation::Equal => order.is_eq(),
-        Relation::LaterEqual => order.is_ge(),
-        Relation::Later => order.is_gt(),
     }
 }
 
@@ -98,6 +71,6 @@ pub(crate) fn compares(
     if name == "$Version" {
         return compares_as_version(alloc, asked, &candidate.version, text);
     }
-    let stands = is_order(asked, value.cmp(text));
+    let stands = asked.holds(value.cmp(text));
     Ok(stands || (name == "$Architecture" && is_for_all(asked, value)))
 }

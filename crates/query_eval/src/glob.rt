@@ -7,6 +7,7 @@ ghost use Rattle.query_eval.specs.GlobReading.{any_tail, covers, front};
 ghost use Rattle.query_eval.specs.GlobViews.{front_view, IsNearer};
 
 use crate::element::{Element, first_element, takes};
+use crate::glob_end::GlobEnd;
 use crate::letter::split_first_char;
 
 /// How far a pattern and a text go together from their beginnings: to the end of both, to a `*` of the pattern, behind
@@ -14,13 +15,13 @@ use crate::letter::split_first_char;
 #[derive(Drop)]
 pub(crate) enum Front<'p, 't> {
     Whole,
-    Star(&'p str, &'t str),
+    Star(GlobEnd<'p>, &'t str),
     Fails,
 }
 
-fn front_of<'p, 't>(pattern: &'p str, text: &'t str) -> Front<'p, 't>
-    ensures value { front_view result ≡ front (elements_of (chars pattern.now)) (chars text.now) }
-    ensures nearer { IsNearer result pattern.now text.now }
+fn front_of<'p, 't>(pattern: GlobEnd<'p>, text: &'t str) -> Front<'p, 't>
+    ensures value { front_view result ≡ front (elements_of (chars pattern.entry.text.now)) (chars text.now) }
+    ensures nearer { IsNearer result pattern.entry.text.now text.now }
 {
     let mut pattern = pattern;
     let mut left = text;
@@ -53,8 +54,8 @@ fn front_at_end<'p, 't>(text: &'t str) -> Front<'p, 't>
 }
 
 /// Whether the pattern stands for some end of the text.
-fn covers_some_end(pattern: &str, text: &str) -> bool
-    ensures { result ≡ any_tail (covers (elements_of (chars pattern.now))) (chars text.now) }
+fn covers_some_end(pattern: GlobEnd<'_>, text: &str) -> bool
+    ensures { result ≡ any_tail (covers (elements_of (chars pattern.entry.text.now))) (chars text.now) }
 {
     let mut pattern = pattern;
     let mut left = text;
@@ -78,7 +79,8 @@ fn covers_some_end(pattern: &str, text: &str) -> bool
 pub(crate) fn covers_whole(pattern: &str, text: &str) -> bool
     ensures { result ≡ covers (elements_of (chars pattern.now)) (chars text.now) }
 {
-    match front_of(pattern, text) {
+    let whole = GlobEnd::new(pattern);
+    match front_of(whole, text) {
         Front::Whole => true,
         Front::Star(behind, rest) => covers_some_end(behind, rest),
         Front::Fails => false,

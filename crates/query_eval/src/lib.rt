@@ -1,12 +1,14 @@
 //! The truth of queries on packages: shell patterns, regular expressions, relations and fields.
 #![tactic(auto)]
 
+mod asked;
 mod class;
 mod element;
 mod expression;
 mod fault;
 mod field;
 mod glob;
+mod glob_end;
 mod laws;
 mod letter;
 mod node;
@@ -14,11 +16,9 @@ mod patterns;
 mod prepare;
 mod prepared;
 mod truth;
-mod wanted;
 
 pub use fault::EvalFault;
 pub use glob::glob_matches;
-pub use laws::{globs_cut_values, packages_provide_what_they_say};
+pub use laws::globs_cut_values;
 pub use patterns::{MemPatterns, PatternErr, Patterns, RegexPatterns};
 pub use prepared::Prepared;
-pub use wanted::satisfies;

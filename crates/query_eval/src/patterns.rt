@@ -1,7 +1,8 @@
 //! Who builds regular expressions.
 
-ghost use Rattle.std.specs.Prelude.{◌≡◌, ◌⊎◌, ◌≤◌, ℕ, List, IfOk, Option, Some, None, string_bytes, option_map, IsTrue};
+ghost use Rattle.std.specs.Prelude.{◌≡◌, ◌⊎◌, ◌≤◌, ℕ, List, IfOk, Option, Some, None, string_bytes, option_map, IsTrue, IsFalse};
 ghost use Rattle.query_eval.specs.Build.{IsReadFrom, IsNoPattern, Rose, one_more, is_due};
+ghost use Rattle.query_eval.specs.Builders.{IsCounted, IsBuilt, IsDueAnswer};
 
 use regex::Regex;
 use std::alloc::Global;
@@ -15,6 +16,15 @@ pub enum PatternErr {
     Size,
     /// There was no memory.
     OutOfMemory,
+}
+
+impl PatternErr {
+    /// The same error once more.
+    pub fn copy(&self) -> PatternErr
+        ensures { result ≡ self.now }
+    {
+        *self
+    }
 }
 
 /// Builds regular expressions, and counts those that it refuses for their size.
@@ -65,6 +75,8 @@ impl RegexPatterns {
         ensures never_falls { self.old.refusals ≤ self.new.refusals }
         ensures kept { (result ≡ PatternErr.Size) ⊎ (self.new.refused ≡ self.old.refused) }
         ensures syntax { (result ≡ PatternErr.Size) ⊎ (result ≡ PatternErr.OutOfMemory) }
+        ensures counted { result ≡ PatternErr.Size → IsCounted text.now self.old self.new }
+        ensures unchanged { (result ≡ PatternErr.Size) ⊎ (self.new ≡ self.old) }
     {
         let Ok(kept) = String::from_str(self.alloc, text) else {
             return PatternErr::OutOfMemory;
@@ -82,7 +94,16 @@ impl Patterns for RegexPatterns {
 
     ghost refused = { λ p. option_map string_bytes p.refused };
 
-    fn build(&mut self, text: &str) -> Result<Regex, PatternErr> {
+    fn build(&mut self, text: &str) -> Result<Regex, PatternErr>
+        ensures read { IfOk result (IsReadFrom text.now) }
+        ensures syntax { result ≡ Err PatternErr.Syntax → IsNoPattern text.now }
+        ensures size { result ≡ Err PatternErr.Size → Rose self.old.refusals self.new.refusals }
+        ensures named { result ≡ Err PatternErr.Size → option_map string_bytes self.new.refused ≡ Some text.now }
+        ensures never_falls { self.old.refusals ≤ self.new.refusals }
+        ensures kept { (result ≡ Err PatternErr.Size) ⊎ (option_map string_bytes self.new.refused ≡ option_map string_bytes self.old.refused) }
+        // Only a text that is a pattern is refused for its size, and only then anything changes.
+        ensures built { IsBuilt text.now self.old self.new result }
+    {
         match Regex::new(self.alloc, text) {
             Ok(regex) => Ok(regex),
             Err(regex::Error::Syntax(_)) => Err(PatternErr::Syntax),
@@ -147,7 +168,9 @@ impl Patterns for MemPatterns {
         ensures never_falls { self.old.patterns.refusals ≤ self.new.patterns.refusals }
         ensures kept { (result ≡ Err PatternErr.Size) ⊎ (option_map string_bytes self.new.patterns.refused ≡ option_map string_bytes self.old.patterns.refused) }
         // A call whose turn it is refuses the pattern, unless memory runs out.
-        ensures turn { IsTrue (is_due self.old.failing.items self.old.calls) → (result ≡ Err PatternErr.Size) ⊎ (result ≡ Err PatternErr.OutOfMemory) }
+        ensures due { IsTrue (is_due self.old.failing.items self.old.calls) → IsDueAnswer text.now self.old.patterns self.new.patterns result }
+        // Every other call answers as `regex` does.
+        ensures undue { IsFalse (is_due self.old.failing.items self.old.calls) → IsBuilt text.now self.old.patterns self.new.patterns result }
         ensures calls { self.new.calls ≡ one_more self.old.calls }
         ensures failing { self.new.failing ≡ self.old.failing }
     {

@@ -13,21 +13,9 @@ use crate::node::{Check, Node};
 use crate::patterns::{PatternErr, Patterns};
 use ap_text::Name;
 use control_stanza::Text;
-use deb_version::{Relation, Version};
-use query_grammar::{Query, Test};
+use deb_version::{Relation, Version, copy_relation};
+use query_tree::{Query, Test};
 use std::alloc::{AllocError, Global};
-
-fn copy_relation(
-    alloc: Global,
-    relation: &Option<(Relation, Version)>,
-) -> Result<Option<(Relation, Version)>, AllocError>
-    ensures { IfOk result (λ made. made ≡ relation.now) }
-{
-    match relation {
-        None => Ok(None),
-        Some((asked, version)) => Ok(Some((*asked, version.copy(alloc)?))),
-    }
-}
 
 fn copy_arch(alloc: Global, arch: &Option<Name>) -> Result<Option<Name>, AllocError>
     ensures { IfOk result (λ made. made ≡ arch.now) }

@@ -5,13 +5,14 @@ ghost use Rattle.query_tree.specs.Tree.{plain};
 ghost use Rattle.query_eval.specs.Conditions.{IsPattern, IsRefused, KeepsRefused, patterns_of};
 ghost use Rattle.query_eval.specs.Truth.{matches as is_true_of};
 
+use crate::asked::Asked;
 use crate::fault::EvalFault;
 use crate::node::Node;
 use crate::patterns::Patterns;
 use crate::prepare::prepare;
 use crate::truth::matches;
 use package_core::Package;
-use query_grammar::Query;
+use query_tree::Query;
 use std::alloc::{AllocError, Global};
 use std::marker::Model;
 
@@ -56,10 +57,11 @@ impl Prepared {
         Ok(Prepared { node })
     }
 
-    /// Whether the query is true of the package. Fails only for want of memory.
+    /// Whether the query is true of the package. What the package provides is read once, and only where a condition asks
+    /// for it. Fails only for want of memory.
     pub fn matches(&self, alloc: Global, candidate: &Package) -> Result<bool, AllocError>
         ensures { IfOk result (λ b. b ≡ is_true_of self.now candidate.now) }
     {
-        matches(alloc, &self.node, candidate)
+        matches(alloc, &self.node, &mut Asked::new(candidate))
     }
 }

@@ -5,13 +5,13 @@ ghost use Rattle.std.specs.Option.{option_map};
 ghost use Rattle.std.specs.Prelude.{map};
 ghost use Rattle.query_tree.specs.Tree.{listed};
 ghost use Rattle.query_eval.specs.Preparing.{node_tree, check_test};
-ghost use Rattle.query_eval.specs.Satisfies.{is_wanted as wanted};
+ghost use Rattle.package_relations.specs.Satisfies.{is_wanted as wanted};
 ghost use Rattle.query_eval.specs.Truth.{matches as tree_matches, some_matches, each_matches, passes as value_passes, field_holds as holds_of_field, arch_holds, reference_holds, value_in};
 
+use crate::asked::Asked;
 use crate::field::{compares, value_of};
 use crate::glob::covers_whole;
 use crate::node::{Check, Node};
-use crate::wanted::{is_for, is_wanted};
 use ap_text::Name;
 use control_stanza::Text;
 use deb_version::{Relation, Version};
@@ -68,57 +68,60 @@ fn is_for_asked(candidate: &Package, arch: &Option<Name>) -> bool
 {
     match arch {
         None => true,
-        Some(arch) => is_for(candidate, arch),
+        Some(arch) => candidate.is_for(arch),
     }
 }
 
 fn is_wanted_for(
     alloc: Global,
-    candidate: &Package,
+    asked: &mut Asked<'_>,
     name: &Name,
     relation: &Option<(Relation, Version)>,
     arch: &Option<Name>,
 ) -> Result<bool, AllocError>
-    ensures { IfOk result (λ b. b ≡ (wanted candidate.now name.now relation.now && arch_holds candidate.now arch.now)) }
+    ensures value { IfOk result (λ b. b ≡ (wanted asked.old name.now relation.now && arch_holds asked.old arch.now)) }
+    ensures same { asked.new ≡ asked.old }
 {
-    if !is_for_asked(candidate, arch) {
+    if !is_for_asked(asked.package(), arch) {
         return Ok(false);
     }
-    is_wanted(alloc, candidate, name, relation)
+    asked.is_wanted(alloc, name, relation)
 }
 
 /// Whether a query is true of a package.
 #[cycle(matches)]
-pub(crate) fn matches(alloc: Global, node: &Node, candidate: &Package) -> Result<bool, AllocError>
-    ensures { IfOk result (λ b. b ≡ tree_matches (node_tree node.now) candidate.now) }
+pub(crate) fn matches(alloc: Global, node: &Node, asked: &mut Asked<'_>) -> Result<bool, AllocError>
+    ensures value { IfOk result (λ b. b ≡ tree_matches (node_tree node.now) asked.old) }
+    ensures same { asked.new ≡ asked.old }
 {
     match node {
-        Node::Any(nodes) => some_match(alloc, nodes, candidate),
-        Node::All(nodes) => each_match(alloc, nodes, candidate),
+        Node::Any(nodes) => some_match(alloc, nodes, asked),
+        Node::All(nodes) => each_match(alloc, nodes, asked),
         Node::Not(inner) => {
-            let holds = matches(alloc, inner, candidate)?;
+            let holds = matches(alloc, inner, asked)?;
             Ok(!holds)
         }
         Node::Reference {
             name,
             version,
             arch,
-        } => Ok(is_reference(candidate, name, version, arch)),
+        } => Ok(is_reference(asked.package(), name, version, arch)),
         Node::Wanted {
             name,
             relation,
             arch,
-        } => is_wanted_for(alloc, candidate, name, relation, arch),
-        Node::Field { name, check } => field_holds(alloc, candidate, name, check),
+        } => is_wanted_for(alloc, asked, name, relation, arch),
+        Node::Field { name, check } => field_holds(alloc, asked.package(), name, check),
     }
 }
 
 #[cycle(matches)]
-fn some_match(alloc: Global, nodes: &[Node], candidate: &Package) -> Result<bool, AllocError>
-    ensures { IfOk result (λ b. b ≡ some_matches (listed (map node_tree nodes.now)) candidate.now) }
+fn some_match(alloc: Global, nodes: &[Node], asked: &mut Asked<'_>) -> Result<bool, AllocError>
+    ensures value { IfOk result (λ b. b ≡ some_matches (listed (map node_tree nodes.now)) asked.old) }
+    ensures same { asked.new ≡ asked.old }
 {
     for node in nodes {
-        if matches(alloc, node, candidate)? {
+        if matches(alloc, node, asked)? {
             return Ok(true);
         }
     }
@@ -126,11 +129,12 @@ fn some_match(alloc: Global, nodes: &[Node], candidate: &Package) -> Result<bool
 }
 
 #[cycle(matches)]
-fn each_match(alloc: Global, nodes: &[Node], candidate: &Package) -> Result<bool, AllocError>
-    ensures { IfOk result (λ b. b ≡ each_matches (listed (map node_tree nodes.now)) candidate.now) }
+fn each_match(alloc: Global, nodes: &[Node], asked: &mut Asked<'_>) -> Result<bool, AllocError>
+    ensures value { IfOk result (λ b. b ≡ each_matches (listed (map node_tree nodes.now)) asked.old) }
+    ensures same { asked.new ≡ asked.old }
 {
     for node in nodes {
-        if !matches(alloc, node, candidate)? {
+        if !matches(alloc, node, asked)? {
             return Ok(false);
         }
     }

@@ -1,4 +1,4 @@
-use Rattle.std.proofs.Common.{◌≡◌, ◌≤◌, true, length}
+use Rattle.std.proofs.Common.{◌≡◌, ◌≤◌, length}
 use Rattle.std.specs.Str.{chars}
 use Rattle.query_eval.specs.Glob.{class_end}
 use denote.Shadow.{shadow}
@@ -8,7 +8,7 @@ use Rattle.query_eval.proofs.class.behind_class.Given as goal
 abbrev pub invariant-letters : goal.invariant-letters
 invariant-letters l = record {
   is_text : shadow (Utf8 l.left);
-  same : class_end l.first (chars l.left) ≡ class_end true (chars l.text);
+  same : class_end l.first (chars l.left) ≡ class_end l.begins (chars l.text);
   shorter : length l.left ≤ length l.text;
 }
 

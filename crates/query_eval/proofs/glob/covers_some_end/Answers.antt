@@ -12,21 +12,21 @@ next : (es : List Element) (c : ℕ) (cs ds : List ℕ) → cs ≡ c ∷ ds → 
 next es c cs ds e h = ap (any_tail (covers es)) e ∙ tail_next es c ds (subst (λ x. fails ≡ front es x) e h)
 
 pub returns-in-Whole : goal.returns-in-Whole
-returns-in-Whole c = sym (tail_whole (elements_of (chars c.ends.pattern.now)) (chars c.ends.left.now) c.in-Whole.ensures.value) ∙ c.ends.invariant.same
+returns-in-Whole c = sym (tail_whole (elements_of (chars c.ends.pattern.text.now)) (chars c.ends.left.now) c.in-Whole.ensures.value) ∙ c.ends.invariant.same
 
 pub ends-preserved-in-Star : goal.ends-preserved-in-Star
 ends-preserved-in-Star c = record {
   pattern_is = search rules;
   text_is = search rules;
-  same = sym (tail_star (elements_of (chars c.ends.pattern.now)) (elements_of (chars c.in-Star.behind.now)) (chars c.ends.left.now) (chars c.in-Star.rest.now) c.in-Star.ensures.value) ∙ c.ends.invariant.same;
+  same = sym (tail_star (elements_of (chars c.ends.pattern.text.now)) (elements_of (chars c.in-Star.behind.text.now)) (chars c.ends.left.now) (chars c.in-Star.rest.now) c.in-Star.ensures.value) ∙ c.ends.invariant.same;
 }
 
 pub returns-in_default : goal.returns-in_default
-returns-in_default c = sym (last (elements_of (chars c.ends.pattern.now)) (chars c.ends.left.now) c.in_default.ensures c.in-Fails.ensures.value) ∙ c.ends.invariant.same
+returns-in_default c = sym (last (elements_of (chars c.ends.pattern.text.now)) (chars c.ends.left.now) c.in_default.ensures c.in-Fails.ensures.value) ∙ c.ends.invariant.same
 
 pub ends-preserved : goal.ends-preserved
 ends-preserved c = record {
   pattern_is = c.ends.invariant.pattern_is;
   text_is = search rules;
-  same = sym (next (elements_of (chars c.ends.pattern.now)) c.in-Some.field-0-0 (chars c.ends.left.now) (chars c.in-Some.rest.now) c.in-Some.ensures.0 c.in-Fails.ensures.value) ∙ c.ends.invariant.same;
+  same = sym (next (elements_of (chars c.ends.pattern.text.now)) c.in-Some.field-0-0 (chars c.ends.left.now) (chars c.in-Some.rest.now) c.in-Some.ensures.0 c.in-Fails.ensures.value) ∙ c.ends.invariant.same;
 }

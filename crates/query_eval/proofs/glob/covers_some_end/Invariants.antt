@@ -8,10 +8,10 @@ use Rattle.query_eval.proofs.glob.covers_some_end.Given as goal
 
 abbrev pub invariant-ends : goal.invariant-ends
 invariant-ends l = record {
-  pattern_is : shadow (Utf8 l.pattern);
+  pattern_is : shadow (Utf8 l.pattern.text.now);
   text_is : shadow (Utf8 l.left);
-  same : any_tail (covers (elements_of (chars l.pattern))) (chars l.left) ≡ any_tail (covers (elements_of (chars l.fn.pattern))) (chars l.text);
+  same : any_tail (covers (elements_of (chars l.pattern.text.now))) (chars l.left) ≡ any_tail (covers (elements_of (chars l.fn.pattern.text.now))) (chars l.text);
 }
 
 abbrev pub decreases-ends : goal.decreases-ends
-decreases-ends l = length l.pattern + length l.left
+decreases-ends l = length l.pattern.text.now + length l.left
