@@ -2,25 +2,11 @@
 
 ghost use Rattle.std.specs.Prelude.{◌≡◌, IfOk, Some};
 ghost use Rattle.std.specs.Option.{option_copied};
-ghost use Rattle.package_core.specs.Fields.{is_of_file as of_file};
 ghost use Rattle.query_eval.specs.Truth.{value_in, version_compares, is_for_all as for_all, text_compares, compares as stands_so, is_globbed};
 
 use deb_version::{Relation, Version, VersionFault, meets};
-use package_core::Package;
+use package_core::{Package, is_file_field};
 use std::alloc::{AllocError, Global};
-
-/// Whether the field is of the file and no part of a package.
-#[tactic(auto, unfolding(control_stanza::specs::Fields::same_name))]
-fn is_of_file(name: &str) -> bool
-    ensures { result ≡ of_file name.now }
-{
-    name.eq_ignore_ascii_case("Filename")
-        || name.eq_ignore_ascii_case("Size")
-        || name.eq_ignore_ascii_case("MD5sum")
-        || name.eq_ignore_ascii_case("SHA1")
-        || name.eq_ignore_ascii_case("SHA256")
-        || name.eq_ignore_ascii_case("SHA512")
-}
 
 /// The value of a field, if it is there.
 #[tactic(auto, unfolding(crate::specs::Truth::value_in))]
@@ -35,7 +21,7 @@ pub(crate) fn value_of<'p>(candidate: &'p Package, name: &str) -> Option<&'p str
         "$SourceVersion" => Some(candidate.source().1),
         "$PackageType" => Some("deb"),
         _ => {
-            if is_of_file(name) {
+            if is_file_field(name) {
                 None
             } else {
                 candidate.stanza.get(name)
