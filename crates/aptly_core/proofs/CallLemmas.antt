@@ -1,43 +1,46 @@
 -- From the opening and the run to the whole call.
-use Rattle.std.proofs.Common.{◌≡◌, ◌⊎◌, inl, inr, List, ℕ, true, false, [], ◌∷◌, ◌++◌, take, drop, Option, Some, None, IsFalse, Result, Ok, Err, OnOk, refl, sym, ◌∙◌, ap, subst, append-nil}
+use Rattle.std.proofs.Common.{◌≡◌, ◌⊎◌, inl, inr, List, ℕ, Bool, true, false, [], ◌∷◌, ◌++◌, take, drop, Option, Some, None, option_map, codes, arith, IsFalse, Result, Ok, Err, OnOk, refl, sym, ◌∙◌, ap, subst, append-nil}
+use Rattle.std.specs.Bool.{if◌then◌else◌}
 use Rattle.std.proofs.lemmas.List.{take-append-drop}
 use Rattle.ap_host.specs.declared.host.Op.{Op}
-use Rattle.ap_host.specs.declared.host.Op.TheVariants.{Barrier, Say, Claim}
+use Rattle.ap_host.specs.declared.host.Op.TheVariants.{Create, Append, Sync, Rename, Remove, Barrier, Say, Claim}
 use Rattle.ap_host.specs.declared.host.HostErr.{HostErr}
 use Rattle.ap_host.specs.declared.host.HostErr.TheVariants.{Failed, OutOfMemory as NoMemory}
-use Rattle.ap_host.specs.Disk.{Path, Files, Log, extended, live_of, said}
+use Rattle.ap_host.specs.Disk.{Path, Files, Log, Image, extended, live_of, said}
 use Rattle.ap_host.specs.Calls.{Did}
 use Rattle.ap_host.specs.Changes.{EachOp}
 use Rattle.ap_host.proofs.ChangeLemmas.{EachOp-append}
-use Rattle.ap_host.proofs.DiskLemmas.{extended-append}
+use Rattle.ap_host.proofs.DiskLemmas.{extended-append, extended-none}
 use Rattle.run_model.specs.Run.{AtRest, IsFront, Ran}
-use Rattle.run_model.specs.Call.{Entry, OpenedWhole, RanAll}
+use Rattle.run_model.specs.Call.{Entry, OpenedWhole, RanAll, SetsLate}
 use Rattle.run_model.proofs.Joins.{said-append}
-use Rattle.run_model.proofs.Openings.{first, live_first, durable_first, opened_none, opened_claimed, opened_more, opened_whole}
-use Rattle.run_model.proofs.Opens.{opened_then_ran, broke_opening}
+use Rattle.run_model.proofs.Openings.{first, live_first, durable_first, sets_never, opened_none, opened_claimed, opened_more, opened_whole}
+use Rattle.run_model.proofs.Opens.{opened_then_ran, broke_opening, begun}
+use Rattle.run_model.proofs.Says.{image_said, live_said}
 use Rattle.aptly_core.specs.declared.catalogue_root.LoadFault.{LoadFault}
 use Rattle.aptly_core.specs.declared.catalogue_root.LoadFault.TheVariants as faults
-use Rattle.command_words.specs.Plain.{PlainCommand}
+use Rattle.command_words.specs.Plain.{PlainCommand, db_cleanup}
 use Rattle.command_words.specs.Commands as words_spell
 use Rattle.command_words.specs.Commands.{IsUsagePlace}
 use Rattle.stage_file.specs.Stage.{StageState, is_staged}
 use Rattle.hash_pool.specs.Growth.{IsOnce}
 use Rattle.hash_pool.proofs.NameLemmas.{pooled_not_staged}
-use Rattle.machine_state.specs.State.{Valid}
+use Rattle.machine_state.specs.State.{Valid, empty}
 use Rattle.machine_state.specs.Values.{StateView}
+use Rattle.machine_step.specs.Step.{Given}
 use Rattle.reply_text.specs.Refusals.{usage_line}
 use Rattle.machine_state.specs.declared.refusal.Refusal.{Refusal}
 use Rattle.aptly_core.specs.declared.status.Damage.{Damage}
 use Rattle.aptly_core.specs.declared.status.Status.{Status}
 use Rattle.aptly_core.specs.declared.status.Status.TheVariants.{Done, Refused, Usage, HostFault, InboxFault, OutOfMemory, Damaged, Busy}
-use Rattle.aptly_core.specs.Calls.{GotClaim, CallTo, Called, CalledWith, TellsUsage, SaysUsage, IsSaid, IsRunAnswer, IsDamagedAnswer}
-use Rattle.aptly_core.specs.Machine.{machine, IsWork, IsOpening, Opening, Sets}
+use Rattle.aptly_core.specs.Calls.{asked, GotClaim, CallTo, Called, CalledWith, TellsUsage, SaysUsage, IsSaid, IsRunAnswer, IsDamagedAnswer, IsUsageAnswer, LawOfWords, LawOfEmptyStore}
+use Rattle.aptly_core.specs.Machine.{Apart, machine, store, IsWork, IsOpening, Opening, Sets}
 use Rattle.aptly_core.specs.Opens.{OpensTo, status_of_load, RunsClaimed, IsFault, IsSettling, IsClaimedStatus, IsDamagedOrFault}
-use Rattle.aptly_core.specs.Runs.{RanAs, RanTo, RunsList, EndsWith, IsRunStatus}
-use Rattle.aptly_core.specs.Store.{Sound, SoundForNone, IsDamage, Open, RootApart, BodiesApart, Apart}
+use Rattle.aptly_core.specs.Runs.{RanAs, RanTo, RunsList, EndsWith, IsEnd, IsRunStatus}
+use Rattle.aptly_core.specs.Store.{Sound, SoundForNone, IsDamage, Open, RootApart, BodiesApart}
 use Rattle.aptly_core.proofs.Lawful.{lawful}
-use Rattle.aptly_core.proofs.LoadLemmas.{sound_once, stored_sound}
-use Rattle.aptly_core.proofs.RunLemmas.{words_each, say_words, grows_in, apart_along}
+use Rattle.aptly_core.proofs.LoadLemmas.{empty_valid, sound_once, stored_sound}
+use Rattle.aptly_core.proofs.RunLemmas.{words_each, say_words, apart_along}
 use Rattle.aptly_core.proofs.SettleLemmas.{settling_each, settling_work, settling_quiet, settling_target}
 
 fault_or : (status : Status) → IsFault status → IsDamagedOrFault status
@@ -51,40 +54,40 @@ fault_or (Damaged d) is = absurd is
 fault_or Busy is = absurd is
 
 -- the opening of a claimed store broke off
-pub claimed_fault : (input : Option Files) (Told : Option (List ℕ) → Type 0) (cs : List PlainCommand) (status : Status) (r : Result StateView LoadFault) (l : Log) (a : List Op) → IsFault status → OpensTo r l a → RunsClaimed input Told cs status l a
-claimed_fault input Told cs status r l a is w = record {
+pub claimed_fault : (given : Given) (Told : Option (List ℕ) → Type 0) (cs : List PlainCommand) (status : Status) (r : Result StateView LoadFault) (l : Log) (a : List Op) → IsFault status → OpensTo r l a → RunsClaimed given Told cs status l a
+claimed_fault given Told cs status r l a is w = record {
   work = settling_work a w.settles.only;
   damaged = λ d e. absurd (subst IsFault e is);
   none = λ none. fault_or status is;
   refused = λ q e. absurd (subst IsFault e is);
-  went = λ apart s durable stands. inl (record { fault = is; only = w.settles.only; grows = w.settles.grows s durable stands });
+  went = λ s durable stands apart. inl (record { fault = is; only = w.settles.only; keeps = w.settles.keeps s durable stands; serves = w.settles.serves s durable stands });
 }
 
-pub claimed_damaged : (input : Option Files) (Told : Option (List ℕ) → Type 0) (cs : List PlainCommand) (d : Damage) (l : Log) (a : List Op) → OpensTo (Err (faults.Damaged d)) l a → RunsClaimed input Told cs (Damaged d) l a
-claimed_damaged input Told cs d l a w = record {
+pub claimed_damaged : (given : Given) (Told : Option (List ℕ) → Type 0) (cs : List PlainCommand) (d : Damage) (l : Log) (a : List Op) → OpensTo (Err (faults.Damaged d)) l a → RunsClaimed given Told cs (Damaged d) l a
+claimed_damaged given Told cs d l a w = record {
   work = settling_work a w.settles.only;
   damaged = λ e is. let one : d ≡ e = cc in (w.damaged d refl, λ apart. let x = w.loads apart in (x.0, subst (λ (y : Damage). IsDamage (live_of l) y) one x.1));
   none = λ none. tt;
   refused = λ q e. absurd (cc);
-  went = λ apart s durable stands. absurd ((w.loads apart.texts).0 s (stored_sound (live_of l) s stands.stored));
+  went = λ s durable stands apart. absurd ((w.loads apart.texts).0 s (stored_sound (live_of l) s stands.stored));
 }
 
 -- no state was given
-pub claimed_none : (input : Option Files) (Told : Option (List ℕ) → Type 0) (cs : List PlainCommand) (fault : LoadFault) (status : Status) → status ≡ status_of_load fault → (l : Log) (a : List Op) → OpensTo (Err fault) l a → RunsClaimed input Told cs status l a
-claimed_none input Told cs fault status is l a w = subst (λ (x : Status). RunsClaimed input Told cs x l a) (sym is) (go fault w)
+pub claimed_none : (given : Given) (Told : Option (List ℕ) → Type 0) (cs : List PlainCommand) (fault : LoadFault) (status : Status) → status ≡ status_of_load fault → (l : Log) (a : List Op) → OpensTo (Err fault) l a → RunsClaimed given Told cs status l a
+claimed_none given Told cs fault status is l a w = subst (λ (x : Status). RunsClaimed given Told cs x l a) (sym is) (go fault w)
   where
-    go : (fault : LoadFault) → OpensTo (Err fault) l a → RunsClaimed input Told cs (status_of_load fault) l a
-    go (faults.Damaged d) w = claimed_damaged input Told cs d l a w
-    go faults.HostFault w = claimed_fault input Told cs HostFault (Err faults.HostFault) l a tt w
-    go faults.OutOfMemory w = claimed_fault input Told cs OutOfMemory (Err faults.OutOfMemory) l a tt w
+    go : (fault : LoadFault) → OpensTo (Err fault) l a → RunsClaimed given Told cs (status_of_load fault) l a
+    go (faults.Damaged d) w = claimed_damaged given Told cs d l a w
+    go faults.HostFault w = claimed_fault given Told cs HostFault (Err faults.HostFault) l a tt w
+    go faults.OutOfMemory w = claimed_fault given Told cs OutOfMemory (Err faults.OutOfMemory) l a tt w
 
 -- what is told apart stays so when staged files are removed
 apart_settled : (input : Option Files) (l : Log) (a : List Op) → ((q : Path) → IsFalse (is_staged q) → live_of (extended a l) q ≡ live_of l q) → BodiesApart input (live_of l) → BodiesApart input (live_of (extended a l))
 apart_settled input l a same apart = apart_along input (live_of l) (live_of (extended a l)) (λ q is. same q (pooled_not_staged q is)) apart
 
 -- it was opened, and then the commands ran
-pub claimed_ran : (input : Option Files) (Told : Option (List ℕ) → Type 0) (cs : List PlainCommand) (status : Status) (state : StateView) (st : StageState) (l : Log) (a b : List Op) → Valid state → IsRunStatus status → (Valid state → EndsWith input Told state cs status) → OpensTo (Ok state) l a → RunsList input Told state cs st status (extended a l) b → RunsClaimed input Told cs status l (a ++ b)
-claimed_ran input Told cs status state st l a b valid is comes w y = record {
+pub claimed_ran : (given : Given) (Told : Option (List ℕ) → Type 0) (cs : List PlainCommand) (status : Status) (state : StateView) (st : StageState) (l : Log) (a b : List Op) → Valid state → IsRunStatus status → (Valid state → EndsWith given Told state cs status) → OpensTo (Ok state) l a → RunsList given Told state cs st status (extended a l) b → RunsClaimed given Told cs status l (a ++ b)
+claimed_ran given Told cs status state st l a b valid is comes w y = record {
   work = EachOp-append IsWork a b (settling_work a w.settles.only) y.work;
   damaged = λ d e. absurd (subst IsRunStatus e is);
   none = λ none. absurd (none state w.loads);
@@ -93,21 +96,22 @@ claimed_ran input Told cs status state st l a b valid is comes w y = record {
       (y.refused valid q e).0,
       said-append a b ∙ ap (λ (x : List ℕ). x ++ said b) (settling_quiet a w.settles.only) ∙ (y.refused valid q e).1,
     ),
-    λ apart s sound. subst (λ (x : StateView). EndsWith input Told x cs status) (sound_once (live_of l) state s apart w.loads sound) (comes valid),
+    λ s sound apart. subst (λ (x : StateView). EndsWith given Told x cs status) (sound_once (live_of l) state s apart w.loads sound) (comes valid),
   );
-  went = λ apart s durable stands.
+  went = λ s durable stands apart.
       let same : state ≡ s = sound_once (live_of l) state s apart.texts w.loads (stored_sound (live_of l) s stands.stored) in
       inr (record {
         opening = a;
         rest = b;
         cut = refl;
         only = w.settles.only;
-        grows = w.settles.grows s durable stands;
-        at_rest = w.settles.rests s durable stands;
-        ran = subst (λ (x : StateView). RanTo input Told (extended a l) x cs status b) same (y.ran (record {
-          rest = subst (λ (x : StateView). AtRest (machine input) x (extended a l)) (sym same) (w.settles.rests s durable stands);
+        keeps = w.settles.keeps s durable stands;
+        serves = w.settles.serves s durable stands;
+        ready = w.settles.ready s durable stands;
+        ran = subst (λ (x : StateView). RanTo given Told (extended a l) x cs status b) same (y.ran (record {
+          rest = subst (λ (x : StateView). AtRest store x (extended a l)) (sym same) (λ f image. (w.settles.ready s durable stands f image).0);
           step = λ clean. w.settles.durable durable;
-          apart = apart_settled input l a w.settles.same apart.bodies;
+          apart = apart_settled given.inbox l a w.settles.same apart.bodies;
         }));
       });
 }
@@ -119,24 +123,24 @@ opening_more l s a only = record {
   once = subst IsOnce (sym (settling_target a only)) tt;
 }
 
-opening_sets : (a : List Op) → EachOp IsSettling a → EachOp (λ op. ¬ Sets op) (Claim true ∷ Barrier ∷ a)
-opening_sets a only = ((λ no. no), ((λ no. no), settling_each (λ op. ¬ Sets op) (λ p is no. no) (λ no. no) a only))
+opening_sets : (given : Given) (l : Log) (s : StateView) (a : List Op) → EachOp IsSettling a → SetsLate (machine given) l s (Claim true ∷ Barrier ∷ a)
+opening_sets given l s a only = sets_never (machine given) l s (Claim true ∷ Barrier ∷ a) ((λ no. no), ((λ no. no), settling_each (λ op. ¬ Sets op) (λ p is no. no) (λ no. no) a only))
 
-call_fault : (input : Option Files) (l : Log) (s t : StateView) (cs : List PlainCommand) (status : Status) (ops : List Op) → IsFault status → RanAll (machine input) None l s t cs None ops → CallTo input None l s t cs status ops
-call_fault input l s t cs HostFault ops is ran = ran
-call_fault input l s t cs InboxFault ops is ran = absurd is
-call_fault input l s t cs OutOfMemory ops is ran = ran
-call_fault input l s t cs Done ops is ran = absurd is
-call_fault input l s t cs (Refused r) ops is ran = absurd is
-call_fault input l s t cs (Usage p) ops is ran = absurd is
-call_fault input l s t cs (Damaged d) ops is ran = absurd is
-call_fault input l s t cs Busy ops is ran = absurd is
+call_fault : (given : Given) (l : Log) (s t : StateView) (cs : List PlainCommand) (status : Status) (ops : List Op) → IsFault status → RanAll (machine given) None l s t cs None ops → CallTo given None l s t cs status ops
+call_fault given l s t cs HostFault ops is ran = ran
+call_fault given l s t cs InboxFault ops is ran = absurd is
+call_fault given l s t cs OutOfMemory ops is ran = ran
+call_fault given l s t cs Done ops is ran = absurd is
+call_fault given l s t cs (Refused r) ops is ran = absurd is
+call_fault given l s t cs (Usage p) ops is ran = absurd is
+call_fault given l s t cs (Damaged d) ops is ran = absurd is
+call_fault given l s t cs Busy ops is ran = absurd is
 
-module _ (input : Option Files) (k : Option (List ℕ)) (l : Log) (s t : StateView) (cs : List PlainCommand) (a b : List Op) (o : OpenedWhole (machine input) l s t a) where
-  then_ran : (end : Option (StateView × Option Refusal)) → Ran (machine input) k (extended a l) s cs end b → RanAll (machine input) k l s t cs end (a ++ b)
-  then_ran end ran = opened_then_ran (machine input) (lawful input) k l s t a o cs end b ran
+module _ (given : Given) (k : Option (List ℕ)) (l : Log) (s t : StateView) (cs : List PlainCommand) (a b : List Op) (o : OpenedWhole (machine given) l s t a) where
+  then_ran : (end : Option (StateView × Option Refusal)) → Ran (machine given) k (extended a l) s cs end b → RanAll (machine given) k l s t cs end (a ++ b)
+  then_ran end ran = opened_then_ran (machine given) (lawful given) k l s t a o cs end b ran
 
-  call_ran : (status : Status) → IsClaimedStatus status → ((d : Damage) → status ≡ Damaged d → ⊥) → RanAs input k (extended a l) s cs status b → CallTo input k l s t cs status (a ++ b)
+  call_ran : (status : Status) → IsClaimedStatus status → ((d : Damage) → status ≡ Damaged d → ⊥) → RanAs given k (extended a l) s cs status b → CallTo given k l s t cs status (a ++ b)
   call_ran Done is not ran = (ran.0, then_ran (Some (ran.0, None)) ran.1)
   call_ran (Refused r) is not ran = (ran.0, then_ran (Some (ran.0, Some r)) ran.1)
   call_ran HostFault is not ran = then_ran None ran
@@ -147,32 +151,32 @@ module _ (input : Option Files) (k : Option (List ℕ)) (l : Log) (s t : StateVi
   call_ran Busy is not ran = absurd is
 
 -- from an entry
-module _ (input : Option Files) (Told : Option (List ℕ) → Type 0) (told : Told None) (l : Log) (cs : List PlainCommand) (status : Status) (b : List Op) (is : IsClaimedStatus status) (w : RunsClaimed input Told cs status (extended first l) b) (apart : Apart input (live_of l)) (s t : StateView) (entry : Entry (machine input) l s t) where
+module _ (given : Given) (Told : Option (List ℕ) → Type 0) (told : Told None) (l : Log) (cs : List PlainCommand) (status : Status) (b : List Op) (is : IsClaimedStatus status) (w : RunsClaimed given Told cs status (extended first l) b) (s t : StateView) (entry : Entry store l s t) (apart : Apart given (live_of l) s cs) where
   stands : Open (live_of (extended first l)) s
   stands = subst (λ (m : Files). Open m s) (sym (live_first l)) entry.now
 
-  apart_first : Apart input (live_of (extended first l))
-  apart_first = subst (Apart input) (sym (live_first l)) apart
+  apart_first : Apart given (live_of (extended first l)) s cs
+  apart_first = subst (λ (m : Files). Apart given m s cs) (sym (live_first l)) apart
 
   not_damaged : (d : Damage) → status ≡ Damaged d → ⊥
   not_damaged d e = ((w.damaged d e).1 apart_first.texts).0 s (stored_sound (live_of (extended first l)) s stands.stored)
 
-  call_claimed : (k : Option (List ℕ)) × Told k × CallTo input k l s t cs status (Claim true ∷ Barrier ∷ b)
-  call_claimed = elim (w.went apart_first s (durable_first l) stands) [
+  call_claimed : (k : Option (List ℕ)) × Told k × CallTo given k l s t cs status (Claim true ∷ Barrier ∷ b)
+  call_claimed = elim (w.went s (durable_first l) stands apart_first) [
     | inl broke ↦ (
       None,
       told,
-      call_fault input l s t cs status (Claim true ∷ Barrier ∷ b) broke.fault
-          (broke_opening (machine input) (lawful input) None l s t cs (Claim true ∷ Barrier ∷ b) (opened_more (machine input) l s t entry b (grows_in input s s (extended first l) b broke.grows) (opening_sets b broke.only) (opening_more l s b broke.only))),
+      call_fault given l s t cs status (Claim true ∷ Barrier ∷ b) broke.fault
+          (broke_opening (machine given) (lawful given) None l s t cs (Claim true ∷ Barrier ∷ b) (opened_more (machine given) l s t entry b broke.keeps broke.serves (opening_sets given l s b broke.only) (opening_more l s b broke.only))),
     )
     | inr went ↦
         let a = went.opening in
-        let o = opened_whole (machine input) l s t entry a (grows_in input s s (extended first l) a went.grows) (opening_sets a went.only) (opening_more l s a went.only) went.at_rest in
+        let o = opened_whole (machine given) l s t entry a went.keeps went.serves (opening_sets given l s a went.only) (opening_more l s a went.only) went.ready in
         let k = went.ran.0 in (
           k,
           went.ran.1,
-          subst (λ (x : List Op). CallTo input k l s t cs status (Claim true ∷ Barrier ∷ x)) went.cut
-              (call_ran input k l s t cs (Claim true ∷ Barrier ∷ a) went.rest o status is not_damaged (subst (λ (m : Log). RanAs input k m s cs status went.rest) (extended-append first a l) went.ran.2)),
+          subst (λ (x : List Op). CallTo given k l s t cs status (Claim true ∷ Barrier ∷ x)) went.cut
+              (call_ran given k l s t cs (Claim true ∷ Barrier ∷ a) went.rest o status is not_damaged (subst (λ (m : Log). RanAs given k m s cs status went.rest) (extended-append first a l) went.ran.2)),
         )
   ]
 
@@ -183,69 +187,69 @@ not_busy : (status : Status) → IsClaimedStatus status → status ≡ Busy → 
 not_busy status is e = subst IsClaimedStatus e is
 
 -- a call that has the store
-pub called_claimed : (input : Option Files) (Told : Option (List ℕ) → Type 0) → Told None → (cs : List PlainCommand) (status : Status) (l : Log) (a b : List Op) → a ≡ first → IsClaimedStatus status → RunsClaimed input Told cs status (extended a l) b → Called input Told cs status l (a ++ b)
-called_claimed input Told told cs status l a b begun is claimed = subst (λ (x : List Op). RunsClaimed input Told cs status (extended x l) b → Called input Told cs status l (x ++ b)) (sym begun) go claimed
+pub called_claimed : (given : Given) (Told : Option (List ℕ) → Type 0) → Told None → (cs : List PlainCommand) (status : Status) (l : Log) (a b : List Op) → a ≡ first → IsClaimedStatus status → RunsClaimed given Told cs status (extended a l) b → Called given Told cs status l (a ++ b)
+called_claimed given Told told cs status l a b begun is claimed = subst (λ (x : List Op). RunsClaimed given Told cs status (extended x l) b → Called given Told cs status l (x ++ b)) (sym begun) go claimed
   where
-    go : RunsClaimed input Told cs status (extended first l) b → Called input Told cs status l (Claim true ∷ Barrier ∷ b)
+    go : RunsClaimed given Told cs status (extended first l) b → Called given Told cs status l (Claim true ∷ Barrier ∷ b)
     go w = record {
       first = inr (refl, (tt, w.work));
       busy = (λ e. absurd (not_busy status is e), λ e. absurd (got_not (Barrier ∷ b) e));
       damaged = λ d e. let x = w.damaged d e in (ap (λ (o : List Op). Claim true ∷ Barrier ∷ o) x.0, subst (λ (f : Files). RootApart f → SoundForNone f × IsDamage f d) (live_first l) x.1);
       none = λ none got. w.none (subst SoundForNone (sym (live_first l)) none);
-      refused = λ q e. let x = w.refused q e in (x.0, subst (λ (f : Files). RootApart f → (s : StateView) → Sound f s → EndsWith input Told s cs status) (live_first l) x.1);
-      run = λ apart s t entry. call_claimed input Told told l cs status b is w apart s t entry;
+      refused = λ q e. let x = w.refused q e in (x.0, subst (λ (f : Files). (s : StateView) → Sound f s → RootApart f → EndsWith given Told s cs status) (live_first l) x.1);
+      run = λ s t entry apart. call_claimed given Told told l cs status b is w s t entry apart;
     }
 
 -- a call that another run keeps from the store
-pub called_busy : (input : Option Files) (Told : Option (List ℕ) → Type 0) → Told None → (cs : List PlainCommand) (l : Log) (ops : List Op) → ops ≡ Claim false ∷ [] → Called input Told cs Busy l ops
-called_busy input Told told cs l ops is = subst (λ (x : List Op). Called input Told cs Busy l x) (sym is) (record {
+pub called_busy : (given : Given) (Told : Option (List ℕ) → Type 0) → Told None → (cs : List PlainCommand) (l : Log) (ops : List Op) → ops ≡ Claim false ∷ [] → Called given Told cs Busy l ops
+called_busy given Told told cs l ops is = subst (λ (x : List Op). Called given Told cs Busy l x) (sym is) (record {
   first = inl (refl, refl);
   busy = (λ e. refl, λ e. refl);
   damaged = λ d e. absurd (cc);
   none = λ none got. absurd (got_not got.0 (sym got.1));
   refused = λ q e. absurd (cc);
-  run = λ apart s t entry. (None, told, (refl, broke_opening (machine input) (lawful input) None l s t cs (Claim false ∷ []) (opened_claimed (machine input) l s t entry false (record { kinds = (tt, tt); once = tt }) (λ no. no))));
+  run = λ s t entry apart. (None, told, (refl, broke_opening (machine given) (lawful given) None l s t cs (Claim false ∷ []) (opened_claimed (machine given) l s t entry false (record { kinds = (tt, tt); once = tt }) (λ no. no))));
 })
 
 -- a call that broke off at its claim or before
-module _ (input : Option Files) (Told : Option (List ℕ) → Type 0) (told : Told None) (cs : List PlainCommand) (status : Status) (l : Log) (is : IsFault status) where
+module _ (given : Given) (Told : Option (List ℕ) → Type 0) (told : Told None) (cs : List PlainCommand) (status : Status) (l : Log) (is : IsFault status) where
   not_now : {A : Type 0} (d : Status) → (IsFault d → ⊥) → status ≡ d → A
   not_now d never e = absurd (never (subst IsFault e is))
 
-  called_none : Called input Told cs status l []
+  called_none : Called given Told cs status l []
   called_none = record {
     first = tt;
     busy = (λ e. not_now Busy (λ no. no) e, λ e. absurd (cc));
     damaged = λ d e. not_now (Damaged d) (λ no. no) e;
     none = λ none got. fault_or status is;
     refused = λ q e. not_now (Refused q) (λ no. no) e;
-    run = λ apart s t entry. (None, told, call_fault input l s t cs status [] is (broke_opening (machine input) (lawful input) None l s t cs [] (opened_none (machine input) l s t entry (record { kinds = tt; once = tt }))));
+    run = λ s t entry apart. (None, told, call_fault given l s t cs status [] is (broke_opening (machine given) (lawful given) None l s t cs [] (opened_none (machine given) l s t entry (record { kinds = tt; once = tt }))));
   }
 
-  called_got : Called input Told cs status l (Claim true ∷ [])
+  called_got : Called given Told cs status l (Claim true ∷ [])
   called_got = record {
     first = inr (refl, tt);
     busy = (λ e. not_now Busy (λ no. no) e, λ e. absurd (got_not [] e));
     damaged = λ d e. not_now (Damaged d) (λ no. no) e;
     none = λ none got. fault_or status is;
     refused = λ q e. not_now (Refused q) (λ no. no) e;
-    run = λ apart s t entry. (None, told, call_fault input l s t cs status (Claim true ∷ []) is (broke_opening (machine input) (lawful input) None l s t cs (Claim true ∷ []) (opened_claimed (machine input) l s t entry true (record { kinds = (tt, tt); once = tt }) (λ no. no))));
+    run = λ s t entry apart. (None, told, call_fault given l s t cs status (Claim true ∷ []) is (broke_opening (machine given) (lawful given) None l s t cs (Claim true ∷ []) (opened_claimed (machine given) l s t entry true (record { kinds = (tt, tt); once = tt }) (λ no. no))));
   }
 
-  pub called_fault : (ops : List Op) → (ops ≡ []) ⊎ (ops ≡ Claim true ∷ []) → Called input Told cs status l ops
-  called_fault ops (inl e) = subst (λ (x : List Op). Called input Told cs status l x) (sym e) called_none
-  called_fault ops (inr e) = subst (λ (x : List Op). Called input Told cs status l x) (sym e) called_got
+  pub called_fault : (ops : List Op) → (ops ≡ []) ⊎ (ops ≡ Claim true ∷ []) → Called given Told cs status l ops
+  called_fault ops (inl e) = subst (λ (x : List Op). Called given Told cs status l x) (sym e) called_none
+  called_fault ops (inr e) = subst (λ (x : List Op). Called given Told cs status l x) (sym e) called_got
 
--- words spell one list at most
-one_list : (words : List (List ℕ)) (cs ds : List PlainCommand) → words_spell.commands words ≡ Some cs → words_spell.commands words ≡ Some ds → cs ≡ ds
+-- words ask for one list at most
+one_list : (words : List (List ℕ)) (cs ds : List PlainCommand) → asked words ≡ Some cs → asked words ≡ Some ds → cs ≡ ds
 one_list words cs ds a b = let same : Some cs ≡ Some ds = sym a ∙ b in cc
 
-no_list : {A : Type 0} (words : List (List ℕ)) (cs : List PlainCommand) → words_spell.commands words ≡ Some cs → words_spell.commands words ≡ None → A
-no_list words cs a b = absurd (let no : Some cs ≡ None = sym a ∙ b in cc)
+no_list : {A : Type 0} (words : List (List ℕ)) (cs : List PlainCommand) → asked words ≡ Some cs → words_spell.commands words ≡ None → A
+no_list words cs a b = absurd (let no : Some cs ≡ None = sym a ∙ ap (option_map (λ commands. if words_spell.is_first (codes "demo") words then db_cleanup ∷ [] else commands)) b in cc)
 
 -- words that spell commands
-module _ (input : Option Files) (Told : Option (List ℕ) → Type 0) (words : List (List ℕ)) (cs : List PlainCommand) (found : words_spell.commands words ≡ Some cs) (HostRose InboxRose : Type 0) (status : Status) (host : status ≡ HostFault → HostRose) (inbox : status ≡ InboxFault → InboxRose) (l : Log) (ops : List Op) (w : Called input Told cs status l ops) where
-  run_answer : (k : Option (List ℕ)) (status : Status) → (status ≡ HostFault → HostRose) → (status ≡ InboxFault → InboxRose) → ¬ HostRose → ¬ InboxRose → GotClaim ops → (s t : StateView) → CallTo input k l s t cs status ops → IsRunAnswer status
+module _ (given : Given) (Told : Option (List ℕ) → Type 0) (words : List (List ℕ)) (cs : List PlainCommand) (found : asked words ≡ Some cs) (HostRose InboxRose : Type 0) (status : Status) (host : status ≡ HostFault → HostRose) (inbox : status ≡ InboxFault → InboxRose) (l : Log) (ops : List Op) (w : Called given Told cs status l ops) where
+  run_answer : (k : Option (List ℕ)) (status : Status) → (status ≡ HostFault → HostRose) → (status ≡ InboxFault → InboxRose) → ¬ HostRose → ¬ InboxRose → GotClaim ops → (s t : StateView) → CallTo given k l s t cs status ops → IsRunAnswer status
   run_answer k Done h i nh ni got s t call = tt
   run_answer k (Refused r) h i nh ni got s t call = tt
   run_answer k OutOfMemory h i nh ni got s t call = tt
@@ -265,29 +269,29 @@ module _ (input : Option Files) (Told : Option (List ℕ) → Type 0) (words : L
   damaged_answer (Usage p) h nh is = is
   damaged_answer Busy h nh is = is
 
-  pub called_with : CalledWith words input Told HostRose InboxRose status l ops
+  pub called_with : CalledWith words given Told HostRose InboxRose status l ops
   called_with = record {
     usage = λ none. no_list words cs found none;
-    called = λ ds d. subst (λ (x : List PlainCommand). Called input Told x status l ops) (one_list words cs ds found d) w;
-    answers = λ ds d nh ni got apart s t entry. let r = w.run apart s t entry in run_answer r.0 status host inbox nh ni got s t r.2;
+    called = λ ds d. subst (λ (x : List PlainCommand). Called given Told x status l ops) (one_list words cs ds found d) w;
+    answers = λ ds d nh ni got s t entry apart. let r = w.run s t entry (subst (Apart given (live_of l) s) (one_list words ds cs d found) apart) in run_answer r.0 status host inbox nh ni got s t r.2;
     damaged = λ ds d nh got none. damaged_answer status host nh (w.none none got);
   }
 
 -- words that spell none
-pub told_with : (input : Option Files) (Told : Option (List ℕ) → Type 0) (words : List (List ℕ)) (place : ℕ) → IsUsagePlace words place → (HostRose InboxRose : Type 0) (status : Status) (l : Log) (ops : List Op) → TellsUsage place status ops → CalledWith words input Told HostRose InboxRose status l ops
-told_with input Told words place is H I status l ops w = record {
+pub told_with : (given : Given) (Told : Option (List ℕ) → Type 0) (words : List (List ℕ)) (place : ℕ) → IsUsagePlace words place → (HostRose InboxRose : Type 0) (status : Status) (l : Log) (ops : List Op) → TellsUsage place status ops → CalledWith words given Told HostRose InboxRose status l ops
+told_with given Told words place is H I status l ops w = record {
   usage = λ none. record { first = w.first; usage = w.usage; front = inr (place, is, w.front) };
   called = λ ds d. no_list words ds d is.0;
-  answers = λ ds d nh ni got apart s t entry. no_list words ds d is.0;
+  answers = λ ds d nh ni got s t entry apart. no_list words ds d is.0;
   damaged = λ ds d nh got none. no_list words ds d is.0;
 }
 
 -- want of memory for the commands
-pub unread_with : (input : Option Files) (Told : Option (List ℕ) → Type 0) → Told None → (words : List (List ℕ)) (HostRose InboxRose : Type 0) (l : Log) → CalledWith words input Told HostRose InboxRose OutOfMemory l []
-unread_with input Told told words H I l = record {
+pub unread_with : (given : Given) (Told : Option (List ℕ) → Type 0) → Told None → (words : List (List ℕ)) (HostRose InboxRose : Type 0) (l : Log) → CalledWith words given Told HostRose InboxRose OutOfMemory l []
+unread_with given Told told words H I l = record {
   usage = λ none. record { first = tt; usage = λ place e. absurd (cc); front = inl refl };
-  called = λ ds d. called_fault input Told told ds OutOfMemory l tt [] (inl refl);
-  answers = λ ds d nh ni got apart s t entry. tt;
+  called = λ ds d. called_fault given Told told ds OutOfMemory l tt [] (inl refl);
+  answers = λ ds d nh ni got s t entry apart. tt;
   damaged = λ ds d nh got none. tt;
 }
 
@@ -317,3 +321,79 @@ tells_usage place v ops w = record { first = w.first; usage = λ p is. let one :
 
 pub tells_other : {T E : Type 0} (place : ℕ) (r : Result T E) (status : Status) (ops : List Op) → ((p : ℕ) → status ≡ Usage p → ⊥) → SaysUsage place r ops → TellsUsage place status ops
 tells_other place r status ops other w = record { first = w.first; usage = λ p is. absurd (other p is); front = w.front }
+
+-- a fault of the host is one of an opening, and no end
+pub fault_no_end : (status : Status) → IsFault status → IsEnd status → ⊥
+fault_no_end Done is end = is
+fault_no_end (Refused r) is end = is
+fault_no_end status is end = end
+
+pub load_no_end : (fault : LoadFault) → IsEnd (status_of_load fault) → ⊥
+load_no_end (faults.Damaged d) end = end
+load_no_end faults.HostFault end = end
+load_no_end faults.OutOfMemory end = end
+
+pub usage_no_end : (status : Status) → IsUsageAnswer status → IsEnd status → ⊥
+usage_no_end Done is end = is
+usage_no_end (Refused r) is end = is
+usage_no_end status is end = end
+
+pub fault_no_usage : (status : Status) (p : ℕ) → IsFault status → status ≡ Usage p → ⊥
+fault_no_usage status p is e = subst IsFault e is
+
+-- words leave a store as it was
+image_words : (ops : List Op) (l : Log) (f : Files) → EachOp IsSaid ops → Image (extended ops l) f → Image l f
+image_words [] l f each image = subst (λ (x : Log). Image x f) (extended-none l) image
+image_words (Say b ∷ ops) l f each image =
+    image_said l b f (image_words ops (extended (Say b ∷ []) l) f each.1 (subst (λ (x : Log). Image x f) (sym (extended-append (Say b ∷ []) ops l)) image))
+image_words (Create q ∷ ops) l f each image = absurd each.0
+image_words (Append q b ∷ ops) l f each image = absurd each.0
+image_words (Sync q ∷ ops) l f each image = absurd each.0
+image_words (Rename x y ∷ ops) l f each image = absurd each.0
+image_words (Remove q ∷ ops) l f each image = absurd each.0
+image_words (Barrier ∷ ops) l f each image = absurd each.0
+image_words (Claim b ∷ ops) l f each image = absurd each.0
+
+live_words : (ops : List Op) (l : Log) → EachOp IsSaid ops → live_of (extended ops l) ≡ live_of l
+live_words [] l each = ap live_of (extended-none l)
+live_words (Say b ∷ ops) l each = ap live_of (sym (extended-append (Say b ∷ []) ops l)) ∙ live_words ops (extended (Say b ∷ []) l) each.1 ∙ live_said l b
+live_words (Create q ∷ ops) l each = absurd each.0
+live_words (Append q b ∷ ops) l each = absurd each.0
+live_words (Sync q ∷ ops) l each = absurd each.0
+live_words (Rename x y ∷ ops) l each = absurd each.0
+live_words (Remove q ∷ ops) l each = absurd each.0
+live_words (Barrier ∷ ops) l each = absurd each.0
+live_words (Claim b ∷ ops) l each = absurd each.0
+
+-- a front of words is words
+front_words : (before after ops : List Op) → before ++ after ≡ ops → EachOp IsSaid ops → EachOp IsSaid before
+front_words [] after ops e each = tt
+front_words (b ∷ before) after [] e each = absurd (cc)
+front_words (b ∷ before) after (op ∷ ops) e each =
+    let head : b ≡ op = cc in
+    let tail : before ++ after ≡ ops = cc in
+    (subst IsSaid (sym head) each.0, front_words before after ops tail each.1)
+
+pub law_of_words : LawOfWords
+law_of_words l s t ops entry each = (
+  record { now = subst (λ (f : Files). Open f s) (sym (live_words ops l each)) entry.now; images = λ f image. entry.images f (image_words ops l f each image) },
+  λ before after e f image. elim (entry.images f (image_words before l f (front_words before after ops e each) image)) [ inl x ↦ inl (begun store f s x) | inr x ↦ inr (begun store f t x) ],
+)
+
+-- a store with no file holds the empty state
+pub law_of_empty_store : LawOfEmptyStore
+law_of_empty_store = begun store (λ path. None) empty (record {
+  stored = record { valid = empty_valid; root = inr (refl, refl); bodies = λ k d lt. absurd (omega (arith, lt)); named = λ p bytes is e. absurd (cc) };
+  public = λ q is. refl;
+})
+
+-- ---- what the words ask for
+asked_from : (words : List (List ℕ)) (cs : List PlainCommand) → words_spell.commands words ≡ Some cs → (b : Bool) → words_spell.is_first (codes "demo") words ≡ b → asked words ≡ Some (if b then db_cleanup ∷ [] else cs)
+asked_from words cs found b is =
+    ap (option_map (λ commands. if words_spell.is_first (codes "demo") words then db_cleanup ∷ [] else commands)) found ∙ ap (λ (x : Bool). Some (if x then db_cleanup ∷ [] else cs)) is
+
+pub asked_all : (words : List (List ℕ)) (cs : List PlainCommand) → words_spell.commands words ≡ Some cs → words_spell.is_first (codes "demo") words ≡ false → asked words ≡ Some cs
+asked_all words cs found is = asked_from words cs found false is
+
+pub asked_one : (words : List (List ℕ)) (cs : List PlainCommand) → words_spell.commands words ≡ Some cs → words_spell.is_first (codes "demo") words ≡ true → asked words ≡ Some (db_cleanup ∷ [])
+asked_one words cs found is = asked_from words cs found true is

@@ -37,9 +37,10 @@ use Rattle.machine_step.specs.Early.{early, or_else, bad_name, bad_folder, unkno
 use Rattle.query_eval.specs.Conditions.{IsCondition}
 use Rattle.machine_step.specs.Queries.{IsPatternRefusal}
 use Rattle.machine_step.specs.declared.outcome.Reading.{Reading}
-use Rattle.machine_step.specs.Step.{Came, refused, new_repo, taken_in, done, came_to, MayArrive, MayArriveFor, StepWith, Step}
+use Rattle.machine_step.specs.declared.outcome.Reading.TheVariants as readings
+use Rattle.machine_step.specs.Step.{Given, Came, refused, new_repo, taken_in, done, came_to, MayArrive, MayArriveFor, StepWith, Step}
 use Rattle.aptly_core.specs.declared.fault.RunFault.{RunFault}
-use Rattle.aptly_core.specs.Arrives.{Arrives, ArrivesFor, Decides, DecidesIf, arrived_of, list_in}
+use Rattle.aptly_core.specs.Arrives.{Arrives, ArrivesFor, Decides, arrived_of, list_in}
 use Rattle.aptly_core.specs.Store.{BodiesApart, Stored}
 
 -- ---- nothing was read
@@ -49,24 +50,26 @@ apart_none input l w = subst (λ (x : Log). BodiesApart input (live_of x)) (sym 
 step_none : (st : StageState) (l : Log) → IsInStep st l → IsInStep st (extended [] l)
 step_none st l w = subst (IsInStep st) (sym (extended-none l)) w
 
-pub arrives_nothing : (input : Option Files) (s : StateView) (st : StageState) (l : Log) → Arrives input s st st (Ok arrivals.Nothing) l []
-arrives_nothing input s st l = record {
+pub arrives_nothing : (input : Option Files) (s : StateView) (reading : Reading) (st : StageState) (l : Log) → Arrives input s reading st st (Ok arrivals.Nothing) l []
+arrives_nothing input s reading st l = record {
   grows = grows_none l;
+  nothing = λ is. refl;
   step = step_none st l;
   apart = apart_none input l;
   bodies = λ stored apart k d lt. absurd (omega (arith, lt));
 }
 
-pub decides_err : (input : Option Files) (s : StateView) (st : StageState) (r : Result Made RunFault) (e : RunFault) → r ≡ Err e → (l : Log) → Decides input s st st r l []
-decides_err input s st r e is l = subst (λ v. Decides input s st st v l []) (sym is) (record { grows = grows_none l; step = step_none st l; apart = apart_none input l; bodies = tt })
+pub decides_err : (Fits : Type 0) (input : Option Files) (s : StateView) (c : PlainCommand) (st : StageState) (r : Result Made RunFault) (e : RunFault) → r ≡ Err e → (l : Log) → Decides Fits input s c st st r l []
+decides_err Fits input s c st r e is l = subst (λ v. Decides Fits input s c st st v l []) (sym is) (record { grows = grows_none l; nothing = λ fits none. refl; step = step_none st l; apart = apart_none input l; bodies = tt })
 
 -- a command that is refused before anything is read, with a state that stays
-pub decides_refused : (input : Option Files) (s : StateView) (st : StageState) (out : Made) → out.state ≡ None → (l : Log) → Decides input s st st (Ok out) l []
-decides_refused input s st out none l = record {
+pub decides_refused : (Fits : Type 0) (input : Option Files) (s : StateView) (c : PlainCommand) (st : StageState) (out : Made) → out.state ≡ None → (l : Log) → Decides Fits input s c st st (Ok out) l []
+decides_refused Fits input s c st out none l = record {
   grows = grows_none l;
+  nothing = λ fits none. refl;
   step = step_none st l;
   apart = apart_none input l;
-  bodies = λ stored apart. subst (λ (x : Option StateView). IfSome x (λ t. All (HasBody (live_of (extended [] l))) t.known)) (sym none) tt;
+  bodies = λ fits stored apart. subst (λ (x : Option StateView). IfSome x (λ t. All (HasBody (live_of (extended [] l))) t.known)) (sym none) tt;
 }
 
 -- ---- a folder was read
@@ -81,9 +84,10 @@ met_before inbox l ops fills bytes (inl w) = elim (fills w.0 w.1) [
   | inr new ↦ inr (new.0, new.2 ∙ sym new.4 ∙ w.2)
 ]
 
-pub arrives_added : (input : Option Files) (s : StateView) (before now : StageState) (given : Result Arrived UpdateFault) (r : Result Arrived RunFault) → r ≡ arrived_of given → (l : Log) (ops : List Op) → Adds input s.known given before now l ops → Arrives input s before now r l ops
-arrives_added input s before now given r is l ops w = subst (λ v. Arrives input s before now v l ops) (sym is) (record {
+pub arrives_added : (input : Option Files) (s : StateView) (reading : Reading) → (reading ≡ readings.Nothing → ⊥) → (before now : StageState) (given : Result Arrived UpdateFault) (r : Result Arrived RunFault) → r ≡ arrived_of given → (l : Log) (ops : List Op) → Adds input s.known given before now l ops → Arrives input s reading before now r l ops
+arrives_added input s reading reads before now given r is l ops w = subst (λ v. Arrives input s reading before now v l ops) (sym is) (record {
   grows = w.grows;
+  nothing = λ is. absurd (reads is);
   step = w.step;
   apart = λ apart. record {
     inbox = apart.inbox;
@@ -175,10 +179,19 @@ stays_all l ops ps grows all k d lt =
     let b = all k d lt in
     record { bytes = b.bytes; file = law_of_growth.stays l (extended ops l) (pool_name p.said.sha256) (grows_whole l ops grows) (name_not_staged p.said.sha256) (subst IsSome (sym b.file) refl) ∙ b.file; said = b.said }
 
+-- a reading of a command that reads nothing
+reads_nothing : (s : StateView) (c : PlainCommand) (reading : Reading) → reading ≡ reading_for (folder_read s c) → folder_read s c ≡ None → reading ≡ readings.Nothing
+reads_nothing s c reading is none = is ∙ ap reading_for none
+
+-- the reading is that of the command
+abbrev pub IsReading : StateView → PlainCommand → Reading → Type 0
+IsReading s c reading = reading ≡ reading_for (folder_read s c)
+
 -- what arrived was decided on
-pub decides_so : (Fits : Type 0) (input : Option Files) (s : StateView) (c : PlainCommand) (before now : StageState) (arrived : Arrived) (out : Made) → (Fits → Valid s → (large : Option (List ℕ)) × StepWith large s c arrived (seen s out)) → (l : Log) (ops : List Op) → Arrives input s before now (Ok arrived) l ops → DecidesIf Fits input s before now (Ok out) l ops
-decides_so Fits input s c before now arrived out step l ops w = record {
+pub decides_so : (reading : Reading) (input : Option Files) (s : StateView) (c : PlainCommand) (before now : StageState) (arrived : Arrived) (out : Made) → (IsReading s c reading → Valid s → (large : Option (List ℕ)) × StepWith large s c arrived (seen s out)) → (l : Log) (ops : List Op) → Arrives input s reading before now (Ok arrived) l ops → Decides (IsReading s c reading) input s c before now (Ok out) l ops
+decides_so reading input s c before now arrived out step l ops w = record {
   grows = w.grows;
+  nothing = λ fits none. w.nothing (reads_nothing s c reading fits none);
   step = w.step;
   apart = w.apart;
   bodies = λ fits stored apart. let went = step fits stored.valid in go out.state (known_all (HasBody (live_of (extended ops l))) went.0 s c arrived (seen s out) went.1 (stays_all l ops s.known w.grows stored.bodies) (w.bodies stored apart));
@@ -189,16 +202,16 @@ decides_so Fits input s c before now arrived out step l ops w = record {
     go (Some t) all = all
 
 -- it broke off behind what arrived
-pub decides_broke : (Fits : Type 0) (input : Option Files) (s : StateView) (before now : StageState) (given : Result Arrived RunFault) (r : Result Made RunFault) (e : RunFault) → r ≡ Err e → (l : Log) (ops : List Op) → Arrives input s before now given l ops → DecidesIf Fits input s before now r l ops
-decides_broke Fits input s before now given r e is l ops w = subst (λ v. DecidesIf Fits input s before now v l ops) (sym is) (record { grows = w.grows; step = w.step; apart = w.apart; bodies = tt })
+pub decides_broke : (reading : Reading) (input : Option Files) (s : StateView) (c : PlainCommand) (before now : StageState) (given : Result Arrived RunFault) (r : Result Made RunFault) (e : RunFault) → r ≡ Err e → (l : Log) (ops : List Op) → Arrives input s reading before now given l ops → Decides (IsReading s c reading) input s c before now r l ops
+decides_broke reading input s c before now given r e is l ops w = subst (λ v. Decides (IsReading s c reading) input s c before now v l ops) (sym is) (record { grows = w.grows; nothing = λ fits none. w.nothing (reads_nothing s c reading fits none); step = w.step; apart = w.apart; bodies = tt })
 
 -- the reading was that of the command
-pub decides_of : (Fits : Type 0) (input : Option Files) (s : StateView) (before now : StageState) (r : Result Made RunFault) → (Valid s → Fits) → (l : Log) (ops : List Op) → DecidesIf Fits input s before now r l ops → Decides input s before now r l ops
-decides_of Fits input s before now r fits l ops w = record { grows = w.grows; step = w.step; apart = w.apart; bodies = go r w.bodies }
+pub decides_of : (Fits : Type 0) (input : Option Files) (s : StateView) (c : PlainCommand) (before now : StageState) (r : Result Made RunFault) → (Valid s → Fits) → (l : Log) (ops : List Op) → Decides Fits input s c before now r l ops → Decides (Valid s) input s c before now r l ops
+decides_of Fits input s c before now r fits l ops w = record { grows = w.grows; nothing = λ valid none. w.nothing (fits valid) none; step = w.step; apart = w.apart; bodies = go r w.bodies }
   where
     go : (v : Result Made RunFault) → IfOk v (λ outcome. Fits → Stored (live_of l) s → BodiesApart input (live_of l) → IfSome outcome.state (λ next. All (HasBody (live_of (extended ops l))) next.known))
-        → IfOk v (λ outcome. Stored (live_of l) s → BodiesApart input (live_of l) → IfSome outcome.state (λ next. All (HasBody (live_of (extended ops l))) next.known))
-    go (Ok out) h = λ stored apart. h (fits stored.valid) stored apart
+        → IfOk v (λ outcome. Valid s → Stored (live_of l) s → BodiesApart input (live_of l) → IfSome outcome.state (λ next. All (HasBody (live_of (extended ops l))) next.known))
+    go (Ok out) h = λ valid stored apart. h (fits valid) stored apart
     go (Err e) h = tt
 
 -- ---- what a command comes to
@@ -261,24 +274,24 @@ short_folder s (repo_add n f) name folder is = go (early s (repo_add n f)) refl 
 short_folder s c name folder is = absurd (cc)
 
 -- what arrived may arrive for the command
-pub may_arrive : (input : Option Files) (s : StateView) (c : PlainCommand) (reading : Reading) (arrived : Arrived) → reading ≡ reading_for (folder_read s c) → ArrivesFor input s reading arrived → MayArrive input s c arrived
-may_arrive input s c reading arrived is arrives = go (folder_read s c) refl (subst (λ (x : Reading). ArrivesFor input s x arrived) is arrives)
+pub may_arrive : (given : Given) (s : StateView) (c : PlainCommand) (reading : Reading) (arrived : Arrived) → reading ≡ reading_for (folder_read s c) → ArrivesFor given.inbox s reading arrived → MayArrive given s c arrived
+may_arrive given s c reading arrived is arrives = go (folder_read s c) refl (subst (λ (x : Reading). ArrivesFor given.inbox s x arrived) is arrives)
   where
-    go : (x : Option (List ℕ × List ℕ)) → folder_read s c ≡ x → ArrivesFor input s (reading_for x) arrived → MayArriveFor input s x arrived
+    go : (x : Option (List ℕ × List ℕ)) → folder_read s c ≡ x → ArrivesFor given.inbox s (reading_for x) arrived → MayArriveFor given.inbox s x arrived
     go None e a = a
     go (Some (name, folder)) e a = a (short_folder s c name folder e)
 
 -- a command that is refused before anything is read comes to its refusal
-pub refused_early : (input : Option Files) (old new : ℕ) (large : Option (List ℕ)) (s : StateView) (c : PlainCommand) (r : Refusal) (out : Made) → out ≡ record { state = None; reply = refusal_line r; refusal = Some r } → Told old new large (λ text. Refuses text s c (Some r))
-    → Told old new large (λ text. Step input text s c (seen s out))
-refused_early input old new large s c r out is w =
-    (w.0, w.1, (arrivals.Nothing, subst (λ (x : Option (List ℕ × List ℕ)). MayArriveFor input s x arrivals.Nothing) (sym (reads_none w.0 s c r w.2)) refl, (Some r, w.2, ap (seen s) is)))
+pub refused_early : (given : Given) (old new : ℕ) (large : Option (List ℕ)) (s : StateView) (c : PlainCommand) (r : Refusal) (out : Made) → out ≡ record { state = None; reply = refusal_line r; refusal = Some r } → Told old new large (λ text. Refuses text s c (Some r))
+    → Told old new large (λ text. Step given text s c (seen s out))
+refused_early given old new large s c r out is w =
+    (w.0, w.1, (arrivals.Nothing, subst (λ (x : Option (List ℕ × List ℕ)). MayArriveFor given.inbox s x arrivals.Nothing) (sym (reads_none w.0 s c r w.2)) refl, (Some r, w.2, ap (seen s) is)))
 
 -- what is told of a call behind another is told of both
 pub told_wider : (old mid new : ℕ) (refused large : Option (List ℕ)) → old ≤ mid → IsTold mid new refused large → IsTold old new refused large
 told_wider old mid new refused None le told = tt
 told_wider old mid new refused (Some text) le told = (elim told.0 [ inl more ↦ inl (omega (arith, le, more)) | inr full ↦ inr full ], told.1)
 
-pub comes_wider : (input : Option Files) (old mid new : ℕ) (refused : Option (List ℕ)) (s : StateView) (c : PlainCommand) (r : Result Made RunFault) → old ≤ mid → IfOk r (λ outcome. Told mid new refused (λ large. Step input large s c (seen s outcome))) → IfOk r (λ outcome. Told old new refused (λ large. Step input large s c (seen s outcome)))
-comes_wider input old mid new refused s c (Ok out) le w = (w.0, told_wider old mid new refused w.0 le w.1, w.2)
-comes_wider input old mid new refused s c (Err e) le w = tt
+pub comes_wider : (given : Given) (old mid new : ℕ) (refused : Option (List ℕ)) (s : StateView) (c : PlainCommand) (r : Result Made RunFault) → old ≤ mid → IfOk r (λ outcome. Told mid new refused (λ large. Step given large s c (seen s outcome))) → IfOk r (λ outcome. Told old new refused (λ large. Step given large s c (seen s outcome)))
+comes_wider given old mid new refused s c (Ok out) le w = (w.0, told_wider old mid new refused w.0 le w.1, w.2)
+comes_wider given old mid new refused s c (Err e) le w = tt

@@ -31,7 +31,7 @@ clash h = absurd (cc)
 abbrev pub Taken : Log → Path → Type 0
 Taken l q = IsTrue (is_staged q) ⊎ (IsTrue (is_pooled q) × (live_of l q ≡ None))
 
-taking_each : (l : Log) (Q : Op → Type 0) → ((p : Path) → IsTrue (is_staged p) → Q (Create p)) → ((p : Path) (b : List ℕ) → IsTaking l (Append p b) → Q (Append p b)) → ((p : Path) → IsTrue (is_staged p) → Q (Sync p)) → ((a b : Path) → IsTaking l (Rename a b) → Q (Rename a b)) → (ops : List Op) → EachOp (IsTaking l) ops → EachOp Q ops
+pub taking_each : (l : Log) (Q : Op → Type 0) → ((p : Path) → IsTrue (is_staged p) → Q (Create p)) → ((p : Path) (b : List ℕ) → IsTaking l (Append p b) → Q (Append p b)) → ((p : Path) → IsTrue (is_staged p) → Q (Sync p)) → ((a b : Path) → IsTaking l (Rename a b) → Q (Rename a b)) → (ops : List Op) → EachOp (IsTaking l) ops → EachOp Q ops
 taking_each l Q c a s r ops each = EachOp-map (IsTaking l) Q one ops each
   where
     one : (op : Op) → IsTaking l op → Q op

@@ -1,7 +1,6 @@
 -- The machine of the program is lawful, whatever its inbox tells.
 use Rattle.std.proofs.Common.{◌≡◌, ℕ, Bool, true, false, List, [], length, nat_le, Option, Some, None, sym, ◌∙◌, ap, subst}
 use Rattle.std.specs.Bool.{if◌then◌else◌}
-use Rattle.ap_host.specs.Disk.{Files}
 use Rattle.command_words.specs.Plain.{PlainCommand, repo_create, repo_add, repo_show, package_search, package_show}
 use Rattle.run_model.specs.Run.{Outcome, Lawful}
 use Rattle.machine_state.specs.declared.limit.Limit.TheVariants.{Repos}
@@ -18,7 +17,7 @@ use Rattle.machine_step.specs.Early.{early, conditions, AfterNames, Refuses}
 use Rattle.package_list.specs.Lists.{union}
 use Rattle.local_repo.specs.Arrival.{list_of}
 use Rattle.local_repo.specs.Fits.{added}
-use Rattle.machine_step.specs.Step.{Came, Step, new_repo, refused, added_reply, taken_in, done, came_to}
+use Rattle.machine_step.specs.Step.{Given, Came, Step, new_repo, refused, added_reply, taken_in, done, came_to}
 use Rattle.local_repo.proofs.EntryLemmas.{listed_packages}
 use Rattle.local_repo.proofs.LawLemmas.{arrives_fit}
 use Rattle.local_repo.proofs.TotalLemmas.{some_arrives}
@@ -36,23 +35,23 @@ arrives = some_arrives
 abbrev pub outcome_of : Came → Outcome StateView Refusal
 outcome_of o = record { reply = o.reply; refusal = o.refusal; state = o.state }
 
-pub says : (input : Option Files) (k : Option (List ℕ)) (s : StateView) (c : PlainCommand) (o : Outcome StateView Refusal) → Steps input k s c o → o.reply ≡ [] → ⊥
-says input k s c o step = says_step input k s c (came o) step
+pub says : (given : Given) (k : Option (List ℕ)) (s : StateView) (c : PlainCommand) (o : Outcome StateView Refusal) → Steps given k s c o → o.reply ≡ [] → ⊥
+says given k s c o step = says_step given k s c (came o) step
 
 -- a command that isn't refused may come to the same whatever a call tells
 not_refused : (j k : Option (List ℕ)) (texts : List (List ℕ)) (e : Option Refusal) → AfterNames j texts e None → AfterNames k texts e None
 not_refused j k texts None w = w
 not_refused j k texts (Some r) w = w
 
-pub plain : (input : Option Files) (j k : Option (List ℕ)) (s : StateView) (c : PlainCommand) (o : Outcome StateView Refusal) → o.refusal ≡ None → Steps input j s c o → Steps input k s c o
-plain input j k s c o none step = go step.2.0 step.2.1 step.2.2
+pub plain : (given : Given) (j k : Option (List ℕ)) (s : StateView) (c : PlainCommand) (o : Outcome StateView Refusal) → o.refusal ≡ None → Steps given j s c o → Steps given k s c o
+plain given j k s c o none step = go step.2.0 step.2.1 step.2.2
   where
-    go : (r : Option Refusal) → Refuses j s c r → came o ≡ came_to s c step.0 r → Steps input k s c o
+    go : (r : Option Refusal) → Refuses j s c r → came o ≡ came_to s c step.0 r → Steps given k s c o
     go None w is = (step.0, step.1, (None, not_refused j k (conditions c) (early s c) w, is))
     go (Some r) w is = absurd (let no : None ≡ Some r = sym none ∙ ap (λ (x : Came). x.refusal) is in cc)
 
-pub keeps : (input : Option Files) (k : Option (List ℕ)) (s : StateView) (c : PlainCommand) (o : Outcome StateView Refusal) → Valid s → Steps input k s c o → Valid o.state
-keeps input k s c o valid step = valid_step fits input k s c (came o) valid step
+pub keeps : (given : Given) (k : Option (List ℕ)) (s : StateView) (c : PlainCommand) (o : Outcome StateView Refusal) → Valid s → Steps given k s c o → Valid o.state
+keeps given k s c o valid step = valid_step fits given k s c (came o) valid step
 
 -- a refused command says the line of its refusal
 abbrev pub SaysIt : Came → Type 0
@@ -82,24 +81,22 @@ done_says s (package_search query) arrived = no_line s _ s
 done_says s (package_show query) arrived = no_line s _ s
 done_says s command arrived = line_of s NotBuilt
 
-pub refused_says : (input : Option Files) (k : Option (List ℕ)) (s : StateView) (c : PlainCommand) (o : Outcome StateView Refusal) (r : Refusal) → Steps input k s c o → o.refusal ≡ Some r → o.reply ≡ refusal_line r
-refused_says input k s c o r step is = subst SaysIt (sym step.2.2) (go step.2.0) r is
+pub refused_says : (given : Given) (k : Option (List ℕ)) (s : StateView) (c : PlainCommand) (o : Outcome StateView Refusal) (r : Refusal) → Steps given k s c o → o.refusal ≡ Some r → o.reply ≡ refusal_line r
+refused_says given k s c o r step is = subst SaysIt (sym step.2.2) (go step.2.0) r is
   where
     go : (q : Option Refusal) → SaysIt (came_to s c step.0 q)
     go (Some q) = line_of s q
     go None = done_says s c step.0
 
-total : (input : Option Files) (k : Option (List ℕ)) (s : StateView) (c : PlainCommand) → Valid s → (o : Came) × Step input k s c o
-total input k s c valid = total_step arrives input k s c
+total : (given : Given) (k : Option (List ℕ)) (s : StateView) (c : PlainCommand) → Valid s → (o : Came) × Step given k s c o
+total given k s c valid = total_step arrives given k s c
 
-pub lawful : (input : Option Files) → Lawful (machine input)
-lawful input = record {
-  replies = says input;
-  plain = plain input;
-  keeps = keeps input;
-  total = λ k s c valid. let w = total input k s c valid in (outcome_of w.0, w.1);
+pub lawful : (given : Given) → Lawful (machine given)
+lawful given = record {
+  store = record { opens = λ f s settled. settled; settled_serves = λ f s settled. settled.public; serves = λ f s t served. served };
+  replies = says given;
+  plain = plain given;
+  keeps = keeps given;
+  total = λ k s c valid. let w = total given k s c valid in (outcome_of w.0, w.1);
   valid = λ f s stands. stands.stored.valid;
-  opens = λ f s settled. settled;
-  settled_serves = λ f s settled. settled.public;
-  serves = λ f s t served. served;
 }

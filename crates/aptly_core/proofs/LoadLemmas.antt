@@ -1,6 +1,8 @@
 -- The loading of a state.
-use Rattle.std.proofs.Common.{◌≡◌, ◌⊎◌, inl, inr, ℕ, zero, suc, ◌+◌, ◌<◌, ◌≤◌, map, arith, List, [], All, Contains, length, slice_index_or, Option, Some, None, Result, Ok, Err, IfOk, option_map, refl, sym, ◌∙◌, ap, subst}
-use Rattle.std.proofs.lemmas.List.{get_or-map, length-map}
+use Rattle.std.proofs.Common.{◌≡◌, ◌⊎◌, inl, inr, ℕ, zero, suc, ◌+◌, ◌<◌, ◌≤◌, map, arith, List, [], ◌∷◌, ◌++◌, take, drop, All, length, slice_index_or, Option, Some, None, Result, Ok, Err, IfOk, option_map, refl, sym, ◌∙◌, ap, subst}
+use Rattle.std.proofs.lemmas.List.{get_or-map, length-map, get_or-take, length-take, length-append}
+use Rattle.std.proofs.Math.Seq.{get_or-append_seam}
+use Rattle.ap_host.proofs.ListLemmas.{round}
 use Rattle.ap_host.specs.Disk.{Path, Content, Files}
 use Rattle.package_core.specs.Card.{Card}
 use Rattle.hash_pool.specs.Names.{pool_name}
@@ -13,7 +15,7 @@ use Rattle.aptly_core.specs.declared.catalogue_root.LoadFault.{LoadFault}
 use Rattle.aptly_core.specs.declared.catalogue_root.LoadFault.TheVariants.{Damaged, HostFault, OutOfMemory}
 use Rattle.aptly_core.specs.declared.status.Damage.{Damage}
 use Rattle.aptly_core.specs.declared.status.Damage.TheVariants.{Missing, Size, Digest, Unreadable}
-use Rattle.aptly_core.specs.Store.{root, IsRootOf, Stored, Sound, SoundForNone, HasFile, RootApart, IsListed, IsWrong, IsDamage, MayLoad, IsLoadOf, IsLookedFor, AreLookedFor}
+use Rattle.aptly_core.specs.Store.{root, IsRootOf, Stored, Sound, SoundForNone, HasFile, RootApart, IsFirstAmiss, IsListed, IsWrong, IsDamage, MayLoad, IsLoadOf, IsLookedFor, AreLookedFor}
 
 -- a file's length
 length_of : (n : ℕ) (x : Content) → Some n ≡ option_map length x → (bytes : List ℕ) × (x ≡ Some bytes) × (n ≡ length bytes)
@@ -93,18 +95,26 @@ module _ {A : Type 0} (card : A → Card) (rcs : List A) (i : ℕ) (rc : A) (lt 
     | inr e ↦ subst (HasFile f) (at_place d ∙ ap (λ (n : ℕ). slice_index_or (map card rcs) n d) (sym e)) here
   ]
 
-  pub wrong_one : (f : Files) (w : Damage) → IsWrong f (card rc) w → (p : Card) × Contains (map card rcs) p × IsWrong f p w
-  wrong_one f w wrong = (card rc, (i, subst (λ (n : ℕ). i < n) (sym (length-map rcs card)) lt, sym (at_place (card rc))), wrong)
+  pub wrong_one : (f : Files) → FilesTo f (map card rcs) i → (w : Damage) → IsWrong f (card rc) w → (p : Card) × IsFirstAmiss f (map card rcs) p × IsWrong f p w
+  wrong_one f so_far w wrong = (card rc, first, wrong)
+    where
+      first : IsFirstAmiss f (map card rcs) (card rc)
+      first = record {
+        front = take i (map card rcs);
+        back = drop (i + 1) (map card rcs);
+        split = round (map card rcs) i (card rc) (subst (λ (n : ℕ). i < n) (sym (length-map rcs card)) lt) (at_place (card rc));
+        there = λ k d l. let less : k < i = omega (arith, l, length-take i (map card rcs)) in subst (HasFile f) (sym (get_or-take i (map card rcs) k d less)) (so_far k d less);
+      }
 
 pub files_all : {A : Type 0} (card : A → Card) (f : Files) (rcs : List A) (i : ℕ) → length rcs ≤ i → FilesTo f (map card rcs) i → All (HasFile f) (map card rcs)
 files_all card f rcs i over so_far k d lt = so_far k d (let n : length (map card rcs) ≡ length rcs = length-map rcs card in omega (arith, n))
 
 -- the answer of one that broke off
-pub looked_err : {A T : Type 0} (card : A → Card) (f : Files) (rcs : List A) (i : ℕ) (rc : A) → i < length rcs → rc ≡ slice_index_or rcs i rc → (fault : LoadFault) (r : Result T LoadFault) → r ≡ Err fault → IsLookedFor {T = T} f (card rc) (Err fault) → AreLookedFor f (map card rcs) r
-looked_err {T = T} card f rcs i rc lt is fault r e w = subst (AreLookedFor f (map card rcs)) (sym e) (go fault w)
+pub looked_err : {A T : Type 0} (card : A → Card) (f : Files) (rcs : List A) (i : ℕ) (rc : A) → i < length rcs → rc ≡ slice_index_or rcs i rc → FilesTo f (map card rcs) i → (fault : LoadFault) (r : Result T LoadFault) → r ≡ Err fault → IsLookedFor {T = T} f (card rc) (Err fault) → AreLookedFor f (map card rcs) r
+looked_err {T = T} card f rcs i rc lt is so_far fault r e w = subst (AreLookedFor f (map card rcs)) (sym e) (go fault w)
   where
     go : (fault : LoadFault) → IsLookedFor {T = T} f (card rc) (Err fault) → AreLookedFor {T = T} f (map card rcs) (Err fault)
-    go (Damaged d) w = wrong_one card rcs i rc lt is f d w
+    go (Damaged d) w = wrong_one card rcs i rc lt is f so_far d w
     go HostFault w = tt
     go OutOfMemory w = tt
 
@@ -112,7 +122,7 @@ no_item : {X : Type 0} (P : X → Type 0) → All P []
 no_item P k d lt = absurd (omega (arith, lt))
 
 -- the state of an empty store is valid
-empty_valid : Valid empty
+pub empty_valid : Valid empty
 empty_valid = record {
   known = record { packages = no_item _; sorted = tt; few = omega arith; files = no_item _; texts = omega arith };
   repos = no_item _;
@@ -151,14 +161,15 @@ loads_fault f text fault r there is w = subst (MayLoad f) (sym is) (go fault w)
 pub loads_files : (f : Files) (s : StateView) (r : Result StateView LoadFault) → Valid s → f root ≡ Some (root_text s) → IfOk r (λ loaded. loaded ≡ s) → AreLookedFor f s.known r → MayLoad f r
 loads_files f s r valid there same w = go r same w
   where
-    wrong : (p : Card) (d : Damage) → Contains s.known p → IsWrong f p d → RootApart f → SoundForNone f
-    wrong p d known w apart t sound =
+    wrong : (p : Card) (d : Damage) → IsFirstAmiss f s.known p → IsWrong f p d → RootApart f → SoundForNone f
+    wrong p d first w apart t sound =
         let one : t ≡ s = root_once f t s apart sound.valid valid sound.root (inl there) in
         let all : All (HasFile f) s.known = subst (λ (x : StateView). All (HasFile f) x.known) one sound.there in
-        no_file f p d w (subst (HasFile f) known.2 (all known.0 p known.1))
+        let cut : All (HasFile f) (first.front ++ p ∷ first.back) = subst (All (HasFile f)) first.split all in
+        no_file f p d w (subst (HasFile f) (get_or-append_seam first.front p first.back p) (cut (length first.front) p (omega (arith, length-append first.front (p ∷ first.back)))))
 
-    listed : (p : Card) → Contains s.known p → IsListed f p
-    listed p known = record { state = s; valid = valid; root = inl there; known = known }
+    listed : (p : Card) → IsFirstAmiss f s.known p → IsListed f p
+    listed p first = record { state = s; valid = valid; root = inl there; first = first }
 
     go : (v : Result StateView LoadFault) → IfOk v (λ loaded. loaded ≡ s) → AreLookedFor f s.known v → MayLoad f v
     go (Ok t) e all = subst (Sound f) (sym e) (record { valid = valid; root = inl there; there = all })

@@ -5,14 +5,17 @@ use Rattle.ap_host.specs.declared.host.Op.TheVariants.{Claim, Barrier}
 use Rattle.ap_host.specs.declared.host.HostErr.{HostErr}
 use Rattle.ap_host.specs.declared.host.HostErr.TheVariants.{Failed, OutOfMemory}
 use Rattle.ap_host.specs.Calls.{Did}
-use Rattle.ap_host.specs.Disk.{Log, live_of}
+use Rattle.ap_host.specs.Disk.{Log, live_of, Durable}
+use Rattle.run_model.specs.Run.{Keeps}
+use Rattle.run_model.proofs.Growing.{keeps_of}
 use Rattle.aptly_core.specs.declared.catalogue_root.LoadFault.{LoadFault}
 use Rattle.aptly_core.specs.declared.catalogue_root.LoadFault.TheVariants.{Damaged, HostFault, OutOfMemory as NoMemory}
 use Rattle.aptly_core.specs.declared.status.Damage.{Damage}
 use Rattle.aptly_core.specs.Opens.{Enters, SettlesTo, OpensTo}
-use Rattle.aptly_core.specs.Store.{Sound, MayLoad}
+use Rattle.aptly_core.specs.Machine.{store}
+use Rattle.aptly_core.specs.Store.{Open, Sound, MayLoad}
 use Rattle.machine_state.specs.Values.{StateView}
-use Rattle.aptly_core.proofs.SettleLemmas.{nothing_settled, settling_live}
+use Rattle.aptly_core.proofs.SettleLemmas.{nothing_settled, keeps_serve, settling_live}
 
 pub enters_err : (r : Result Bool HostErr) (e : HostErr) (ops : List Op) → r ≡ Err e → (ops ≡ []) ⊎ (ops ≡ Claim true ∷ []) → Enters r ops
 enters_err r e ops is w = subst (λ v. Enters v ops) (sym is) w
@@ -36,7 +39,17 @@ opens_so state r l ops sound same never w = record { settles = w; loads = go r s
 
 pub opens_err : (fault : LoadFault) (l : Log) (ops : List Op) → ops ≡ [] → MayLoad (live_of l) (Err fault) → OpensTo (Err fault) l ops
 opens_err fault l ops none loads = subst (OpensTo (Err fault) l) (sym none) (record {
-  settles = record { only = tt; grows = λ s durable stands. nothing_settled s l durable stands; rests = λ s durable stands. tt; durable = λ durable. tt; cleared = tt; same = λ q not. settling_live q not [] l tt };
+  settles = record {
+    only = tt;
+    keeps = kept;
+    serves = λ s durable stands. keeps_serve s l [] (kept s durable stands);
+    ready = λ s durable stands. tt;
+    durable = λ durable. tt;
+    same = λ q not. settling_live q not [] l tt;
+  };
   loads = loads;
   damaged = λ damage is. refl;
 })
+  where
+    kept : (s : StateView) → Durable l → Open (live_of l) s → Keeps store s l []
+    kept s durable stands = keeps_of store s l [] (nothing_settled s l durable stands)

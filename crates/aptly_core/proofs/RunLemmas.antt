@@ -26,16 +26,18 @@ use Rattle.machine_state.specs.declared.refusal.Refusal.{Refusal}
 use Rattle.machine_state.specs.State.{Valid}
 use Rattle.machine_state.specs.Values.{StateView}
 use Rattle.machine_step.specs.declared.outcome.Outcome.{Outcome as Made}
+use Rattle.machine_step.specs.Early.{folder_read}
+use Rattle.machine_step.specs.Step.{Given}
 use Rattle.machine_step.specs.Answers.{IsNew}
 use Rattle.local_repo.specs.Bodies.{HasBody, IsMet}
 use Rattle.aptly_core.specs.declared.fault.RunFault.{RunFault}
 use Rattle.aptly_core.specs.Arrives.{Decides}
 use Rattle.aptly_core.specs.Commits.{IsCommitting, MayCommit, Saves}
-use Rattle.aptly_core.specs.Machine.{machine, store, Steps, IsWork, IsIdle, is_below_one, AreTargets, Sets, Moves}
+use Rattle.aptly_core.specs.Machine.{machine, store, Steps, IsWork, IsIdle, IsRemoval, SaysAtMost, is_below_one, AreTargets, Sets, Moves}
 use Rattle.aptly_core.specs.Runs.{MayRun, RunsOne}
 use Rattle.aptly_core.specs.Store.{root, BodiesApart}
 use Rattle.aptly_core.proofs.CommitLemmas.{sets_before, rest_valid}
-use Rattle.aptly_core.proofs.GrowLemmas.{taking_quiet, taking_work, taking_idle, taking_sets, once_all, targets_all, grown_rest, grown_to, here}
+use Rattle.aptly_core.proofs.GrowLemmas.{taking_each, taking_quiet, taking_work, taking_idle, taking_sets, once_all, targets_all, grown_rest, grown_to, here}
 use Rattle.aptly_core.proofs.Lawful.{lawful, keeps}
 
 pub committing_quiet : (a : List Op) → EachOp IsCommitting a → said a ≡ []
@@ -91,12 +93,29 @@ words_target (Remove q ∷ a) each = absurd each.0
 words_target (Barrier ∷ a) each = absurd each.0
 words_target (Claim b ∷ a) each = absurd each.0
 
+-- no more than the reply was said
+pub most_words : (reply : List ℕ) (b : List Op) → SaysAtMost reply b → EachOp IsWord b
+most_words reply b (inl none) = subst (EachOp IsWord) (sym none) tt
+most_words reply b (inr some) = subst (EachOp IsWord) (sym some.2) (tt, tt)
+
+pub none_removed : (l : Log) (p : List Op) → PoolGrows l p → EachOp (λ op. ¬ IsRemoval op) p
+none_removed l p grows = taking_each l (λ op. ¬ IsRemoval op) (λ q is no. no) (λ q b w no. no) (λ q is no. no) (λ a b w no. no) p grows.kinds
+
+committing_removes : (a : List Op) → EachOp IsCommitting a → EachOp (λ op. ¬ IsRemoval op) a
+committing_removes a each = EachOp-map IsCommitting (λ op. ¬ IsRemoval op) one a each
+  where
+    one : (op : Op) → IsCommitting op → ¬ IsRemoval op
+    one (Remove q) w gone = absurd w
+    one (Create q) w gone = gone
+    one (Append q b) w gone = gone
+    one (Sync q) w gone = gone
+    one (Rename x y) w gone = gone
+    one Barrier w gone = gone
+    one (Say b) w gone = gone
+    one (Claim b) w gone = gone
+
 pub say_words : {T : Type 0} (bytes : List ℕ) (r : Result T HostErr) (b : List Op) → Did (Say bytes) r b → EachOp IsWord b
 say_words bytes r b d = part_each IsWord (Say bytes) b (λ o is. elim is [ inl e ↦ subst IsWord (sym e) tt | inr e ↦ subst IsWord (sym e.1) tt ]) (did_part (Say bytes) r b d)
-
--- what files stand for hangs on no inbox
-pub grows_in : (input : Option Files) (s t : StateView) (l : Log) (ops : List Op) → Grows store s t l ops → Grows (machine input) s t l ops
-grows_in input s t l ops g = record { quiet = g.quiet; each = g.each; onward = g.onward }
 
 -- the files of the pool are as they were after a commit
 abbrev pub Ends : Path → Type 0
@@ -152,20 +171,23 @@ pub taken_work : (l : Log) (p a : List Op) → PoolGrows l p → EachOp IsCommit
 taken_work l p a grows only = EachOp-append IsWork p a (taking_work l p grows.kinds) (committing_work a only)
 
 -- a command broke off before its outcome
-pub broke_taking : (input : Option Files) (l : Log) (s : StateView) (c : PlainCommand) (p : List Op) → PoolGrows l p → AtRest store s l → Ran (machine input) None l s (c ∷ []) None p
-broke_taking input l s c p grows rest = ran_begun (machine input) (lawful input) None l s c p (grows_in input s s l p (grown_to s l p grows rest s)) (record {
+pub broke_taking : (given : Given) (l : Log) (s : StateView) (c : PlainCommand) (p : List Op) → PoolGrows l p → (folder_read s c ≡ None → p ≡ []) → AtRest store s l → Ran (machine given) None l s (c ∷ []) None p
+broke_taking given l s c p grows nothing rest = ran_begun (machine given) (lawful given) None l s c p (grown_to s l p grows rest s) (record {
   work = taking_work l p grows.kinds;
   once = grows.once;
   targets = subst (AreTargets l) (append-nil (targets p)) (targets_all l p [] grows (inl refl));
   refused = tt;
   unchanged = tt;
+  quiet = nothing;
+  removes = λ no. none_removed l p grows;
 })
 
-module _ (input : Option Files) (k : Option (List ℕ)) (l : Log) (s : StateView) (c : PlainCommand) (o : Outcome StateView Refusal) (step : Steps input k s c o) (new : Option StateView) (is : o.state ≡ unwrap_or new s) (kept : IsSome o.refusal → new ≡ None) (fresh : IsNew s new)
-    {T : Type 0} (p : List Op) (taken : PoolGrows l p) (before now : StageState) (r : Result T HostErr) (a : List Op) (saves : Saves s new before now r (extended p l) a) where
+module _ (given : Given) (k : Option (List ℕ)) (l : Log) (s : StateView) (c : PlainCommand) (o : Outcome StateView Refusal) (step : Steps given k s c o) (new : Option StateView) (is : o.state ≡ unwrap_or new s) (kept : IsSome o.refusal → new ≡ None) (fresh : IsNew s new)
+    {T : Type 0} (p : List Op) (taken : PoolGrows l p) (nothing : folder_read s c ≡ None → p ≡ []) (before now : StageState) (r : Result T HostErr) (a : List Op) (saves : Saves s new before now r (extended p l) a) where
   -- without a word more, or with some
-  moves : (b : List Op) → EachOp IsWord b → Moves l s c (Some o) ((p ++ a) ++ b)
-  moves b words =
+  moves : (b : List Op) → SaysAtMost o.reply b → Moves l s c (Some o) ((p ++ a) ++ b)
+  moves b most =
+      let words = most_words o.reply b most in
       let once = sets_before a b saves.targets (words_target b words) in
       let all : targets ((p ++ a) ++ b) ≡ targets p ++ targets (a ++ b) = ap targets (append_assoc p a b) ∙ targets-append p (a ++ b) in
       record {
@@ -174,42 +196,47 @@ module _ (input : Option Files) (k : Option (List ℕ)) (l : Log) (s : StateView
         targets = subst (AreTargets l) (sym all) (targets_all l p (targets (a ++ b)) taken once);
         refused = λ some. EachOp-append (IsIdle l) (p ++ a) b (EachOp-append (IsIdle l) p a (taking_idle l p taken.kinds) (subst (EachOp (IsIdle l)) (sym (saves.nothing (kept some))) tt)) (words_each (IsIdle l) (λ x. tt) b words);
         unchanged = λ same. EachOp-append (λ op. ¬ Sets op) (p ++ a) b (EachOp-append (λ op. ¬ Sets op) p a (taking_sets l p taken.kinds) (calm new refl same)) (words_each (λ op. ¬ Sets op) (λ x no. no) b words);
+        quiet = λ none same. subst (SaysAtMost o.reply) (sym (ap (λ (x : List Op). (x ++ a) ++ b) (nothing none) ∙ ap (λ (x : List Op). x ++ b) (still new refl same))) most;
+        removes = λ no. EachOp-append (λ op. ¬ IsRemoval op) (p ++ a) b (EachOp-append (λ op. ¬ IsRemoval op) p a (none_removed l p taken) (committing_removes a saves.only)) (words_each (λ op. ¬ IsRemoval op) (λ x no. no) b words);
       }
     where
+      still : (n : Option StateView) → new ≡ n → o.state ≡ s → a ≡ []
+      still None e same = saves.nothing e
+      still (Some t) e same = absurd (subst (IsNew s) e fresh (sym (is ∙ ap (λ (x : Option StateView). unwrap_or x s) e) ∙ same))
+
       calm : (n : Option StateView) → new ≡ n → o.state ≡ s → EachOp (λ op. ¬ Sets op) a
-      calm None e same = subst (EachOp (λ op. ¬ Sets op)) (sym (saves.nothing e)) tt
-      calm (Some t) e same = absurd (subst (IsNew s) e fresh (sym (is ∙ ap (λ (x : Option StateView). unwrap_or x s) e) ∙ same))
+      calm n e same = subst (EachOp (λ op. ¬ Sets op)) (sym (still n e same)) tt
 
-  module _ (grows : Grows (machine input) s o.state l (p ++ a)) where
-    pub quietly : Ran (machine input) k l s (c ∷ []) None (p ++ a)
-    quietly = ran_quiet (machine input) (lawful input) k l s c o step (p ++ a) grows (subst (Moves l s c (Some o)) (append-nil (p ++ a)) (moves [] tt))
+  module _ (grows : Grows store s o.state l (p ++ a)) where
+    pub quietly : Ran (machine given) k l s (c ∷ []) None (p ++ a)
+    quietly = ran_quiet (machine given) (lawful given) k l s c o step (p ++ a) grows (subst (Moves l s c (Some o)) (append-nil (p ++ a)) (moves [] (inl refl)))
 
-    none_said : (b : List Op) → b ≡ [] → Ran (machine input) k l s (c ∷ []) None ((p ++ a) ++ b)
-    none_said b none = subst (λ (x : List Op). Ran (machine input) k l s (c ∷ []) None x) (sym (append-nil (p ++ a)) ∙ ap (λ (x : List Op). (p ++ a) ++ x) (sym none)) quietly
+    none_said : (b : List Op) → b ≡ [] → Ran (machine given) k l s (c ∷ []) None ((p ++ a) ++ b)
+    none_said b none = subst (λ (x : List Op). Ran (machine given) k l s (c ∷ []) None x) (sym (append-nil (p ++ a)) ∙ ap (λ (x : List Op). (p ++ a) ++ x) (sym none)) quietly
 
-    pub say_broke : (U : Type 0) (e : HostErr) (b : List Op) → AtRest (machine input) o.state (extended (p ++ a) l) → Did {T = U} (Say o.reply) (Err e) b → Ran (machine input) k l s (c ∷ []) None ((p ++ a) ++ b)
+    pub say_broke : (U : Type 0) (e : HostErr) (b : List Op) → AtRest store o.state (extended (p ++ a) l) → Did {T = U} (Say o.reply) (Err e) b → Ran (machine given) k l s (c ∷ []) None ((p ++ a) ++ b)
     say_broke U Failed b rest did = elim did [
       | inl none ↦ none_said b none
-      | inr part ↦ subst (λ (x : List Op). Ran (machine input) k l s (c ∷ []) None ((p ++ a) ++ x)) (sym part.1)
-          (ran_front (machine input) (lawful input) k l s c o step (p ++ a) grows rest (take part.0 o.reply) (drop part.0 o.reply) (sym (take-append-drop part.0 o.reply)) (moves (Say (take part.0 o.reply) ∷ []) (tt, tt)))
+      | inr part ↦ subst (λ (x : List Op). Ran (machine given) k l s (c ∷ []) None ((p ++ a) ++ x)) (sym part.1)
+          (ran_front (machine given) (lawful given) k l s c o step (p ++ a) grows rest (take part.0 o.reply) (drop part.0 o.reply) (sym (take-append-drop part.0 o.reply)) (moves (Say (take part.0 o.reply) ∷ []) (inr (take part.0 o.reply, (drop part.0 o.reply, sym (take-append-drop part.0 o.reply)), refl))))
     ]
     say_broke U OutOfMemory b rest did = none_said b did
 
-    pub say_done : (b : List Op) → AtRest (machine input) o.state (extended (p ++ a) l) → b ≡ Say o.reply ∷ [] → Ran (machine input) k l s (c ∷ []) (Some (o.state, o.refusal)) ((p ++ a) ++ b)
-    say_done b rest told = subst (λ (x : List Op). Ran (machine input) k l s (c ∷ []) (Some (o.state, o.refusal)) ((p ++ a) ++ x)) (sym told)
-        (ran_whole (machine input) (lawful input) k l s c o step (p ++ a) grows rest o.reply [] (sym (append-nil o.reply)) (moves (Say o.reply ∷ []) (tt, tt)) refl)
+    pub say_done : (b : List Op) → AtRest store o.state (extended (p ++ a) l) → b ≡ Say o.reply ∷ [] → Ran (machine given) k l s (c ∷ []) (Some (o.state, o.refusal)) ((p ++ a) ++ b)
+    say_done b rest told = subst (λ (x : List Op). Ran (machine given) k l s (c ∷ []) (Some (o.state, o.refusal)) ((p ++ a) ++ x)) (sym told)
+        (ran_whole (machine given) (lawful given) k l s c o step (p ++ a) grows rest o.reply [] (sym (append-nil o.reply)) (moves (Say o.reply ∷ []) (inr (o.reply, ([], sym (append-nil o.reply)), refl))) refl)
 
 -- an outcome of the code as one of a run
 abbrev pub made : StateView → Made → Outcome StateView Refusal
 made s out = record { reply = out.reply; refusal = out.refusal; state = unwrap_or out.state s }
 
 -- where the new state may be committed
-module _ (input : Option Files) (l : Log) (s : StateView) (before mid : StageState) (out : Made) (p : List Op) (decides : Decides input s before mid (Ok out) l p) (may : MayRun input s before l) (next : Valid (unwrap_or out.state s)) where
+module _ (given : Given) (l : Log) (s : StateView) (c : PlainCommand) (before mid : StageState) (out : Made) (p : List Op) (decides : Decides (Valid s) given.inbox s c before mid (Ok out) l p) (may : MayRun given s before l) (next : Valid (unwrap_or out.state s)) where
   pub ready : MayCommit s (unwrap_or out.state s) mid (extended p l)
   ready = record {
     rest = grown_rest s l p decides.grows may.rest;
     step = decides.step may.step;
-    next = record { valid = next; bodies = go out.state refl (decides.bodies (here s l p decides.grows may.rest).stored may.apart) };
+    next = record { valid = next; bodies = go out.state refl (decides.bodies (rest_valid s l may.rest) (here s l p decides.grows may.rest).stored may.apart) };
   }
     where
       go : (n : Option StateView) → out.state ≡ n → IfSome out.state (λ t. All (HasBody (live_of (extended p l))) t.known) → All (HasBody (live_of (extended p l))) (unwrap_or out.state s).known
@@ -217,22 +244,22 @@ module _ (input : Option Files) (l : Log) (s : StateView) (before mid : StageSta
       go (Some t) e w = subst (λ (x : Option StateView). All (HasBody (live_of (extended p l))) (unwrap_or x s).known) (sym e) (subst (λ (x : Option StateView). IfSome x (λ t. All (HasBody (live_of (extended p l))) t.known)) e w)
 
   module _ {T : Type 0} (now : StageState) (r : Result T HostErr) (a : List Op) (saves : Saves s out.state mid now r (extended p l) a) where
-    pub all_grows : Grows (machine input) s (unwrap_or out.state s) l (p ++ a)
-    all_grows = grows_in input s (unwrap_or out.state s) l (p ++ a) (grows_then store s (unwrap_or out.state s) l p a (grown_to s l p decides.grows may.rest (unwrap_or out.state s)) (saves.grows ready))
+    pub all_grows : Grows store s (unwrap_or out.state s) l (p ++ a)
+    all_grows = grows_then store s (unwrap_or out.state s) l p a (grown_to s l p decides.grows may.rest (unwrap_or out.state s)) (saves.grows ready)
 
-    pub all_rests : (v : T) → r ≡ Ok v → AtRest (machine input) (unwrap_or out.state s) (extended (p ++ a) l)
-    all_rests v e = subst (AtRest (machine input) (unwrap_or out.state s)) (extended-append p a l) (on r e (saves.rests ready))
+    pub all_rests : (v : T) → r ≡ Ok v → AtRest store (unwrap_or out.state s) (extended (p ++ a) l)
+    all_rests v e = subst (AtRest store (unwrap_or out.state s)) (extended-append p a l) (on r e (saves.rests ready))
       where
         on : (x : Result T HostErr) → x ≡ Ok v → OnOk x (AtRest store (unwrap_or out.state s) (extended a (extended p l))) → AtRest store (unwrap_or out.state s) (extended a (extended p l))
         on (Ok y) e w = w
         on (Err y) e w = absurd (cc)
 
     -- a next command may begin
-    pub all_on : (v : T) → r ≡ Ok v → (reply : List ℕ) (b : List Op) → b ≡ Say reply ∷ [] → AtRest (machine input) (unwrap_or out.state s) (extended ((p ++ a) ++ b) l) → MayRun input (unwrap_or out.state s) now (extended ((p ++ a) ++ b) l)
+    pub all_on : (v : T) → r ≡ Ok v → (reply : List ℕ) (b : List Op) → b ≡ Say reply ∷ [] → AtRest store (unwrap_or out.state s) (extended ((p ++ a) ++ b) l) → MayRun given (unwrap_or out.state s) now (extended ((p ++ a) ++ b) l)
     all_on v e reply b told rest = record {
       rest = rest;
       step = λ clean. subst Durable whole (said_durable (extended a (extended p l)) reply (on r e (saves.step ready) clean));
-      apart = apart_along input (live_of (extended p l)) (live_of (extended ((p ++ a) ++ b) l)) (λ q is. ap (λ (x : Log). live_of x q) (sym whole) ∙ live_step_of (extended a (extended p l)) (Say reply) q ∙ committing_live q is a (extended p l) saves.only) (decides.apart may.apart);
+      apart = apart_along given.inbox (live_of (extended p l)) (live_of (extended ((p ++ a) ++ b) l)) (λ q is. ap (λ (x : Log). live_of x q) (sym whole) ∙ live_step_of (extended a (extended p l)) (Say reply) q ∙ committing_live q is a (extended p l) saves.only) (decides.apart may.apart);
     }
       where
         whole : extended (Say reply ∷ []) (extended a (extended p l)) ≡ extended ((p ++ a) ++ b) l
@@ -243,31 +270,31 @@ module _ (input : Option Files) (l : Log) (s : StateView) (before mid : StageSta
         on (Err y) e w = absurd (cc)
 
 -- a command that broke off
-pub runs_err : (input : Option Files) (Told : Option (List ℕ) → Type 0) (s : StateView) (c : PlainCommand) (before now : StageState) (r : Result (StateView × Option Refusal) RunFault) (e : RunFault) (l : Log) (ops : List Op) → r ≡ Err e → EachOp IsWork ops
-    → (MayRun input s before l → (large : Option (List ℕ)) × Told large × Ran (machine input) large l s (c ∷ []) None ops) → RunsOne input Told s c before now r l ops
-runs_err input Told s c before now r e l ops is work ran = subst (λ v. RunsOne input Told s c before now v l ops) (sym is) (record { work = work; says = λ valid. tt; ran = ran; on = λ may. tt })
+pub runs_err : (given : Given) (Told : Option (List ℕ) → Type 0) (s : StateView) (c : PlainCommand) (before now : StageState) (r : Result (StateView × Option Refusal) RunFault) (e : RunFault) (l : Log) (ops : List Op) → r ≡ Err e → EachOp IsWork ops
+    → (MayRun given s before l → (large : Option (List ℕ)) × Told large × Ran (machine given) large l s (c ∷ []) None ops) → RunsOne given Told s c before now r l ops
+runs_err given Told s c before now r e l ops is work ran = subst (λ v. RunsOne given Told s c before now v l ops) (sym is) (record { work = work; says = λ valid. tt; ran = ran; on = λ may. tt })
 
 -- decided, and then saved
-pub record Decided {T : Type 0} (input : Option Files) (s : StateView) (before mid now : StageState) (out : Made) (r : Result T HostErr) (l : Log) (ops : List Op) : Type 0 where
+pub record Decided {T : Type 0} (given : Given) (s : StateView) (c : PlainCommand) (before mid now : StageState) (out : Made) (r : Result T HostErr) (l : Log) (ops : List Op) : Type 0 where
   pub taken : List Op
   pub saved : List Op
   pub cut : taken ++ saved ≡ ops
-  pub decides : Decides input s before mid (Ok out) l taken
+  pub decides : Decides (Valid s) given.inbox s c before mid (Ok out) l taken
   pub saves : Saves s out.state mid now r (extended taken l) saved
 
-pub decided_then_saved : {T : Type 0} (input : Option Files) (s : StateView) (before mid now : StageState) (out : Made) (r : Result T HostErr) (l : Log) (p a : List Op) → Decides input s before mid (Ok out) l p → Saves s out.state mid now r (extended p l) a → Decided input s before mid now out r l (p ++ a)
-decided_then_saved input s before mid now out r l p a d w = record { taken = p; saved = a; cut = refl; decides = d; saves = w }
+pub decided_then_saved : {T : Type 0} (given : Given) (s : StateView) (c : PlainCommand) (before mid now : StageState) (out : Made) (r : Result T HostErr) (l : Log) (p a : List Op) → Decides (Valid s) given.inbox s c before mid (Ok out) l p → Saves s out.state mid now r (extended p l) a → Decided given s c before mid now out r l (p ++ a)
+decided_then_saved given s c before mid now out r l p a d w = record { taken = p; saved = a; cut = refl; decides = d; saves = w }
 
 -- the command that ended
-pub runs_ok : {T : Type 0} (input : Option Files) (Told : Option (List ℕ) → Type 0) (s : StateView) (c : PlainCommand) (before mid now : StageState) (out : Made) (v : T) (r : Result T HostErr) → r ≡ Ok v → (k : Valid s → (large : Option (List ℕ)) × Told large × Steps input large s c (made s out)) → (IsSome out.refusal → out.state ≡ None) → (Valid s → IsNew s out.state)
-    → (l : Log) (ops b : List Op) → Decided input s before mid now out r l ops → b ≡ Say out.reply ∷ [] → {U : Type 0} (x : Result U HostErr) → Did (Say out.reply) x b → RunsOne input Told s c before now (Ok (unwrap_or out.state s, out.refusal)) l (ops ++ b)
-runs_ok input Told s c before mid now out v r ok comes kept fresh l ops b x told y did = subst (λ (z : List Op). RunsOne input Told s c before now (Ok (unwrap_or out.state s, out.refusal)) l (z ++ b)) x.cut (record {
+pub runs_ok : {T : Type 0} (given : Given) (Told : Option (List ℕ) → Type 0) (s : StateView) (c : PlainCommand) (before mid now : StageState) (out : Made) (v : T) (r : Result T HostErr) → r ≡ Ok v → (k : Valid s → (large : Option (List ℕ)) × Told large × Steps given large s c (made s out)) → (IsSome out.refusal → out.state ≡ None) → (Valid s → IsNew s out.state)
+    → (l : Log) (ops b : List Op) → Decided given s c before mid now out r l ops → b ≡ Say out.reply ∷ [] → {U : Type 0} (x : Result U HostErr) → Did (Say out.reply) x b → RunsOne given Told s c before now (Ok (unwrap_or out.state s, out.refusal)) l (ops ++ b)
+runs_ok given Told s c before mid now out v r ok comes kept fresh l ops b x told y did = subst (λ (z : List Op). RunsOne given Told s c before now (Ok (unwrap_or out.state s, out.refusal)) l (z ++ b)) x.cut (record {
   work = saved_work l p a d.grows w.only out.reply y b did;
   says = λ valid.
       let step = comes valid in
-      (step.0, step.1, subst (λ (t : List ℕ). Steps input step.0 s c (record { reply = t; refusal = out.refusal; state = unwrap_or out.state s })) (sym (saved_said p a l (taking_quiet l p d.grows.kinds) w.only out.reply b told)) step.2);
+      (step.0, step.1, subst (λ (t : List ℕ). Steps given step.0 s c (record { reply = t; refusal = out.refusal; state = unwrap_or out.state s })) (sym (saved_said p a l (taking_quiet l p d.grows.kinds) w.only out.reply b told)) step.2);
   ran = λ may. let step = comes (valid may) in (step.0, step.1, done may step.0 step.2);
-  on = λ may. let step = comes (valid may) in all_on input l s before mid out p d may (next may) now r a w v ok out.reply b told (done may step.0 step.2).ends.3;
+  on = λ may. let step = comes (valid may) in all_on given l s c before mid out p d may (next may) now r a w v ok out.reply b told (done may step.0 step.2).ends.3;
 })
   where
     p : List Op
@@ -276,17 +303,17 @@ runs_ok input Told s c before mid now out v r ok comes kept fresh l ops b x told
     a : List Op
     a = x.saved
 
-    d : Decides input s before mid (Ok out) l p
+    d : Decides (Valid s) given.inbox s c before mid (Ok out) l p
     d = x.decides
 
     w : Saves s out.state mid now r (extended p l) a
     w = x.saves
 
-    valid : MayRun input s before l → Valid s
+    valid : MayRun given s before l → Valid s
     valid may = rest_valid s l may.rest
 
-    next : MayRun input s before l → Valid (unwrap_or out.state s)
-    next may = let step = comes (valid may) in keeps input step.0 s c (made s out) (valid may) step.2
+    next : MayRun given s before l → Valid (unwrap_or out.state s)
+    next may = let step = comes (valid may) in keeps given step.0 s c (made s out) (valid may) step.2
 
-    done : (may : MayRun input s before l) (k : Option (List ℕ)) → Steps input k s c (made s out) → Ran (machine input) k l s (c ∷ []) (Some (unwrap_or out.state s, out.refusal)) ((p ++ a) ++ b)
-    done may k step = say_done input k l s c (made s out) step out.state refl kept (fresh (valid may)) p d.grows mid now r a w (all_grows input l s before mid out p d may (next may) now r a w) b (all_rests input l s before mid out p d may (next may) now r a w v ok) told
+    done : (may : MayRun given s before l) (k : Option (List ℕ)) → Steps given k s c (made s out) → Ran (machine given) k l s (c ∷ []) (Some (unwrap_or out.state s, out.refusal)) ((p ++ a) ++ b)
+    done may k step = say_done given k l s c (made s out) step out.state refl kept (fresh (valid may)) p d.grows (d.nothing (valid may)) mid now r a w (all_grows given l s c before mid out p d may (next may) now r a w) b (all_rests given l s c before mid out p d may (next may) now r a w v ok) told

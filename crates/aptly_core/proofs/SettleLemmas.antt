@@ -14,12 +14,12 @@ use Rattle.ap_host.proofs.ChangeLemmas.{EachOp-map, same_after}
 use Rattle.ap_host.proofs.LegalLemmas.{durable_image}
 use Rattle.stage_file.specs.Stage.{StageState, is_staged, IsInStep, IsMarked, ClearsStaged, Barriers}
 use Rattle.stage_file.proofs.StageLemmas.{live_step_of}
-use Rattle.run_model.specs.Run.{Grows, AtRest}
-use Rattle.run_model.proofs.Growing.{grows_then}
+use Rattle.run_model.specs.Run.{Grows, Keeps, Ready, ServesOn}
+use Rattle.run_model.proofs.Growing.{grows_then, keeps_of}
 use Rattle.hash_pool.specs.Growth.{targets}
 use Rattle.hash_pool.specs.Names.{is_pooled}
 use Rattle.hash_pool.proofs.NameLemmas.{pooled_not_staged, not_both}
-use Rattle.aptly_core.specs.Machine.{store, IsWork}
+use Rattle.aptly_core.specs.Machine.{store, IsWork, NoneStaged}
 use Rattle.aptly_core.specs.Opens.{IsSettling, SettlesTo}
 use Rattle.aptly_core.specs.Store.{root, IsRootOf, Open}
 use Rattle.machine_state.specs.Values.{StateView}
@@ -169,8 +169,8 @@ module _ (s : StateView) (l : Log) (durable : Durable l) (stands : Open (live_of
         go true d = ap (λ (o : List Op). live_of (extended o m) q) (subst (λ v. Did Barrier v b) is d) ∙ live_step_of m Barrier q
         go false d = ap (λ (o : List Op). live_of (extended o m) q) d ∙ ap (λ (x : Log). live_of x q) (extended-none m)
 
-    pub settle_rest : (old : StageState) → IsMarked old st a → OnOk r (AtRest store s (extended (a ++ b) l))
-    settle_rest old marked = go r refl barriers.durable
+    pub settle_ready : (old : StageState) → IsMarked old st a → NoneStaged (live_of m) → OnOk r (Ready store s (extended (a ++ b) l))
+    settle_ready old marked cleared = go r refl barriers.durable
       where
         in_step : IsInStep st m
         in_step clean = elim marked [
@@ -178,10 +178,12 @@ module _ (s : StateView) (l : Log) (durable : Durable l) (stands : Open (live_of
           | inr none ↦ subst (λ (o : List Op). Durable (extended o l)) (sym none.0) (subst Durable (sym (extended-none l)) durable)
         ]
 
-        go : (v : Result T HostErr) → r ≡ v → OnOk v (IsInStep st m → Durable (extended b m)) → OnOk v (AtRest store s (extended (a ++ b) l))
-        go (Ok v) is d = subst (AtRest store s) (extended-append a b l) (λ f image.
-            let there = durable_image (extended b m) (d in_step) f image in
-            open_along s (live_of l) f (sym (there root ∙ live_barrier v is root ∙ same.live root root_not_staged)) (λ q at. sym (there q ∙ live_barrier v is q ∙ same.live q (kept_not_staged q at))) stands)
+        go : (v : Result T HostErr) → r ≡ v → OnOk v (IsInStep st m → Durable (extended b m)) → OnOk v (Ready store s (extended (a ++ b) l))
+        go (Ok v) is d = subst (Ready store s) (extended-append a b l) (λ f image.
+            let there = durable_image (extended b m) (d in_step) f image in (
+              open_along s (live_of l) f (sym (there root ∙ live_barrier v is root ∙ same.live root root_not_staged)) (λ q at. sym (there q ∙ live_barrier v is q ∙ same.live q (kept_not_staged q at))) stands,
+              λ q staged. there q ∙ live_barrier v is q ∙ cleared q staged,
+            ))
         go (Err e) is d = tt
 
 -- whatever was staged, all else is as it was
@@ -200,7 +202,7 @@ settling_live q not [] l each = ap (λ (x : Log). live_of x q) (extended-none l)
 settling_live q not (op ∷ a) l each =
     ap (λ (x : Log). live_of x q) (sym (extended-append (op ∷ []) a l)) ∙ settling_live q not a (extended (op ∷ []) l) each.1 ∙ settling_live_one q not op l each.0
 
--- a stage that clears and makes its barrier leaves all durable, and no staged file
+-- a stage that clears and makes its barrier leaves all durable
 module _ {T : Type 0} (l : Log) (a b : List Op) (old st : StageState) (marked : IsMarked old st a) (r : Result T HostErr) (barriers : Barriers st r (extended a l) b) where
   pub settle_durable : Durable l → OnOk r (Durable (extended (a ++ b) l))
   settle_durable durable = go r barriers.durable
@@ -215,36 +217,24 @@ module _ {T : Type 0} (l : Log) (a b : List Op) (old st : StageState) (marked : 
       go (Ok v) d = subst Durable (extended-append a b l) (d in_step)
       go (Err e) d = tt
 
-  pub settle_cleared : ((q : Path) → IsTrue (is_staged q) → live_of (extended a l) q ≡ None) → OnOk r ((q : Path) → IsTrue (is_staged q) → live_of (extended (a ++ b) l) q ≡ None)
-  settle_cleared cleared = go r barriers.made
-    where
-      same : (x : Bool) (v : T) → MatchBool x (Did {T = T} Barrier (Ok v) b) (b ≡ []) → (q : Path) → live_of (extended b (extended a l)) q ≡ live_of (extended a l) q
-      same true v d q = ap (λ (o : List Op). live_of (extended o (extended a l)) q) d ∙ live_step_of (extended a l) Barrier q
-      same false v d q = ap (λ (o : List Op). live_of (extended o (extended a l)) q) d ∙ ap (λ (x : Log). live_of x q) (extended-none (extended a l))
-
-      go : (v : Result T HostErr) → MatchBool st.touched (Did Barrier v b) (b ≡ []) → OnOk v ((q : Path) → IsTrue (is_staged q) → live_of (extended (a ++ b) l) q ≡ None)
-      go (Ok v) d = λ q is. ap (λ (x : Log). live_of x q) (sym (extended-append a b l)) ∙ same st.touched v d q ∙ cleared q is
-      go (Err e) d = tt
+-- a state that is kept is served: nothing is published
+pub keeps_serve : (s : StateView) (l : Log) (ops : List Op) → Keeps store s l ops → ServesOn store s l ops
+keeps_serve s l ops kept earlier between after e rest f image = (kept.each (earlier ++ between) after e f image).public
 
 -- a settling that broke off
 pub settles_err : {T E : Type 0} (r : Result T E) (e : E) (l : Log) (ops : List Op) → r ≡ Err e → EachOp IsSettling ops → ((s : StateView) → Durable l → Open (live_of l) s → Grows store s s l ops) → SettlesTo r l ops
 settles_err r e l ops is only grows = record {
   only = only;
-  grows = grows;
-  rests = λ s durable stands. subst (λ v. OnOk v (AtRest store s (extended ops l))) (sym is) tt;
+  keeps = kept;
+  serves = λ s durable stands. keeps_serve s l ops (kept s durable stands);
+  ready = λ s durable stands. subst (λ v. OnOk v (Ready store s (extended ops l))) (sym is) tt;
   durable = λ durable. subst (λ v. OnOk v (Durable (extended ops l))) (sym is) tt;
-  cleared = subst (λ v. OnOk v ((q : Path) → IsTrue (is_staged q) → live_of (extended ops l) q ≡ None)) (sym is) tt;
   same = λ q not. settling_live q not ops l only;
 }
+  where
+    kept : (s : StateView) → Durable l → Open (live_of l) s → Keeps store s l ops
+    kept s durable stands = keeps_of store s l ops (grows s durable stands)
 
--- the same of another result
-pub settles_as : {T U E F : Type 0} (r : Result T E) (v : Result U F) (l : Log) (ops : List Op) → OnOk v ((x : T) × (r ≡ Ok x)) → SettlesTo r l ops → SettlesTo v l ops
-settles_as r (Ok x) l ops was w = record {
-  only = w.only;
-  grows = w.grows;
-  rests = λ s durable stands. subst (λ y. OnOk y (AtRest store s (extended ops l))) was.1 (w.rests s durable stands);
-  durable = λ durable. subst (λ y. OnOk y (Durable (extended ops l))) was.1 (w.durable durable);
-  cleared = subst (λ y. OnOk y ((q : Path) → IsTrue (is_staged q) → live_of (extended ops l) q ≡ None)) was.1 w.cleared;
-  same = w.same;
-}
-settles_as r (Err e) l ops was w = record { only = w.only; grows = w.grows; rests = λ s durable stands. tt; durable = λ durable. tt; cleared = tt; same = w.same }
+-- the same of an error
+pub settles_other : {T U E F : Type 0} (r : Result T E) (v : Result U F) (f : F) → v ≡ Err f → (l : Log) (ops : List Op) → SettlesTo r l ops → SettlesTo v l ops
+settles_other {U = U} {F = F} r v f is l ops w = subst (λ (x : Result U F). SettlesTo x l ops) (sym is) (record { only = w.only; keeps = w.keeps; serves = w.serves; ready = λ s durable stands. tt; durable = λ durable. tt; same = w.same })

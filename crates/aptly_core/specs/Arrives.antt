@@ -1,5 +1,5 @@
 -- What the deciding of a command adds to the log: the files that it takes in.
-use Rattle.std.specs.Prelude.{◌≡◌, List, [], All, Option, Result, Ok, Err, IfOk, IfSome, length, ◌≤◌}
+use Rattle.std.specs.Prelude.{◌≡◌, List, [], All, Option, None, Result, Ok, Err, IfOk, IfSome, length, ◌≤◌}
 use Rattle.ap_host.specs.declared.host.Op.{Op}
 use Rattle.ap_host.specs.Disk.{Files, Log, extended, live_of}
 use Rattle.stage_file.specs.Stage.{StageState, IsInStep}
@@ -10,6 +10,8 @@ use Rattle.machine_state.specs.declared.arrived.Arrived.TheVariants as arrivals
 use Rattle.machine_state.specs.declared.arrived.UpdateFault.{UpdateFault}
 use Rattle.machine_state.specs.declared.arrived.UpdateFault.TheVariants as updates
 use Rattle.machine_state.specs.Values.{StateView}
+use Rattle.command_words.specs.Plain.{PlainCommand}
+use Rattle.machine_step.specs.Early.{folder_read}
 use Rattle.machine_step.specs.declared.outcome.Outcome.{Outcome}
 use Rattle.machine_step.specs.declared.outcome.Reading.{Reading}
 use Rattle.machine_step.specs.declared.outcome.Reading.TheVariants as readings
@@ -39,23 +41,19 @@ ArrivesFor input state readings.Nothing arrived = arrived ≡ arrivals.Nothing
 ArrivesFor input state (readings.Mirror name) arrived = arrived ≡ arrivals.Nothing
 ArrivesFor input state (readings.Folder name folder) arrived = length folder ≤ 200 → IsArrival input state name folder arrived
 
--- Files were taken into the pool, all that arrived among them.
-pub record Arrives (input : Option Files) (state : StateView) (before now : StageState) (result : Result Arrived RunFault) (l : Log) (ops : List Op) : Type 0 where
+-- Files were taken into the pool, all that arrived among them. Where nothing is to be read, nothing was done.
+pub record Arrives (input : Option Files) (state : StateView) (reading : Reading) (before now : StageState) (result : Result Arrived RunFault) (l : Log) (ops : List Op) : Type 0 where
   pub grows : PoolGrows l ops
+  pub nothing : reading ≡ readings.Nothing → ops ≡ []
   pub step : IsInStep before l → IsInStep now (extended ops l)
   pub apart : BodiesApart input (live_of l) → BodiesApart input (live_of (extended ops l))
   pub bodies : IfOk result (λ arrived. Stored (live_of l) state → BodiesApart input (live_of l) → All (HasBody (live_of (extended ops l))) (list_in arrived))
 
--- Files were taken into the pool, all that the new state knows among them.
-pub record Decides (input : Option Files) (state : StateView) (before now : StageState) (result : Result Outcome RunFault) (l : Log) (ops : List Op) : Type 0 where
+-- Files were taken into the pool, all that the new state knows among them; none where the command reads nothing. This is for a
+-- command of which Fits holds.
+pub record Decides (Fits : Type 0) (input : Option Files) (state : StateView) (command : PlainCommand) (before now : StageState) (result : Result Outcome RunFault) (l : Log) (ops : List Op) : Type 0 where
   pub grows : PoolGrows l ops
-  pub step : IsInStep before l → IsInStep now (extended ops l)
-  pub apart : BodiesApart input (live_of l) → BodiesApart input (live_of (extended ops l))
-  pub bodies : IfOk result (λ outcome. Stored (live_of l) state → BodiesApart input (live_of l) → IfSome outcome.state (λ next. All (HasBody (live_of (extended ops l))) next.known))
-
--- the same, where the reading is that of the command
-pub record DecidesIf (Fits : Type 0) (input : Option Files) (state : StateView) (before now : StageState) (result : Result Outcome RunFault) (l : Log) (ops : List Op) : Type 0 where
-  pub grows : PoolGrows l ops
+  pub nothing : Fits → folder_read state command ≡ None → ops ≡ []
   pub step : IsInStep before l → IsInStep now (extended ops l)
   pub apart : BodiesApart input (live_of l) → BodiesApart input (live_of (extended ops l))
   pub bodies : IfOk result (λ outcome. Fits → Stored (live_of l) state → BodiesApart input (live_of l) → IfSome outcome.state (λ next. All (HasBody (live_of (extended ops l))) next.known))

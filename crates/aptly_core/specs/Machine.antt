@@ -1,27 +1,32 @@
 -- The machine of the program: what files stand for which state, and what the operations of a command keep to.
-use Rattle.std.specs.Prelude.{◌≡◌, ◌⊎◌, ℕ, ◌≤◌, ◌||◌, Bool, List, [], ◌∷◌, length, Option, None, IsTrue, IsSome, IfSome, codes}
+use Rattle.std.specs.Prelude.{◌≡◌, ◌⊎◌, ℕ, ◌≤◌, ◌||◌, Bool, List, [], ◌∷◌, length, Option, None, MatchOption, false, IsTrue, IsSome, IfSome, codes}
 use Rattle.ap_text.specs.Paths.{is_below}
 use Rattle.ap_host.specs.declared.host.Op.{Op}
 use Rattle.ap_host.specs.declared.host.Op.TheVariants.{Create, Append, Sync, Rename, Remove, Barrier, Say, Claim}
 use Rattle.ap_host.specs.Disk.{Path, Files, Log, live_of}
 use Rattle.ap_host.specs.Changes.{EachOp}
 use Rattle.command_words.specs.Plain.{PlainCommand}
-use Rattle.run_model.specs.Run.{Outcome, Machine}
+use Rattle.run_model.specs.Run.{Outcome, Store, Machine, IsFront}
 use Rattle.stage_file.specs.Stage.{is_staged}
 use Rattle.hash_pool.specs.Names.{is_pooled}
 use Rattle.hash_pool.specs.Growth.{targets, IsOnce}
 use Rattle.machine_state.specs.declared.refusal.Refusal.{Refusal}
 use Rattle.machine_state.specs.State.{Valid}
 use Rattle.machine_state.specs.Values.{StateView}
-use Rattle.machine_step.specs.Step.{Step, Came}
-use Rattle.aptly_core.specs.Store.{NothingPublic, Open, root}
+use Rattle.machine_step.specs.Early.{folder_read, is_to_remove}
+use Rattle.machine_step.specs.Step.{Given, Step, Came}
+use Rattle.aptly_core.specs.Store.{BodiesApart, NothingPublic, Open, RootApart, root}
+
+-- What the machine goes from and to. So far it is the state alone; a map of files that commands look at would stand beside it.
+abbrev pub Place : Type 0
+Place = StateView
 
 -- what a command comes to, as an outcome of a run
-abbrev pub came : Outcome StateView Refusal → Came
+abbrev pub came : Outcome Place Refusal → Came
 came o = record { reply = o.reply; refusal = o.refusal; state = o.state }
 
-abbrev pub Steps : Option Files → Option (List ℕ) → StateView → PlainCommand → Outcome StateView Refusal → Type 0
-Steps input large state command o = Step input large state command (came o)
+abbrev pub Steps : Given → Option (List ℕ) → Place → PlainCommand → Outcome Place Refusal → Type 0
+Steps given large state command o = Step given large state command (came o)
 
 abbrev pub is_below_one : Path → Bool
 is_below_one path = is_below (codes "db") path || is_pooled path || is_below (codes "public") path
@@ -56,30 +61,53 @@ IsIdle l (Rename a b) = IsTrue (is_pooled b) × (live_of l b ≡ None)
 IsIdle l (Remove p) = ⊥
 IsIdle l _ = Unit {0}
 
+-- the operation removes a file
+abbrev pub IsRemoval : Op → Type 0
+IsRemoval (Remove p) = Unit {0}
+IsRemoval _ = ⊥
+
+-- no more than the reply is said, or its front, and nothing else is done
+abbrev pub SaysAtMost : List ℕ → List Op → Type 0
+SaysAtMost reply ops = (ops ≡ []) ⊎ ((part : List ℕ) × IsFront part reply × (ops ≡ Say part ∷ []))
+
 -- each is the root, or a pool file that wasn't there
 abbrev pub AreTargets : Log → List Path → Type 0
 AreTargets l [] = Unit {0}
 AreTargets l (p ∷ ps) = ((p ≡ root) ⊎ (IsTrue (is_pooled p) × (live_of l p ≡ None))) × AreTargets l ps
 
 -- what the operations of one command keep to, from the log at its start on
-pub record Moves (l : Log) (state : StateView) (command : PlainCommand) (outcome : Option (Outcome StateView Refusal)) (ops : List Op) : Type 0 where
+pub record Moves (l : Log) (state : Place) (command : PlainCommand) (outcome : Option (Outcome Place Refusal)) (ops : List Op) : Type 0 where
   pub work : EachOp IsWork ops
   pub once : IsOnce (targets ops)
   pub targets : AreTargets l (targets ops)
   pub refused : IfSome outcome (λ o. IsSome o.refusal → EachOp (IsIdle l) ops)
   -- what leaves the state as it was sets no root
   pub unchanged : IfSome outcome (λ o. o.state ≡ state → EachOp (λ op. ¬ Sets op) ops)
+  -- a command that reads nothing and leaves the state as it was says its reply, and does nothing else
+  pub quiet : folder_read state command ≡ None → MatchOption outcome (ops ≡ []) (λ o. o.state ≡ state → SaysAtMost o.reply ops)
+  -- only a command that is to remove files removes any
+  pub removes : is_to_remove command ≡ false → EachOp (λ op. ¬ IsRemoval op) ops
 
 -- what the operations of an opening keep to
-pub record Opening (l : Log) (state : StateView) (ops : List Op) : Type 0 where
+pub record Opening (l : Log) (state : Place) (ops : List Op) : Type 0 where
   pub kinds : EachOp IsOpening ops
   pub once : IsOnce (targets ops)
 
--- The machine of a call whose inbox tells these files, or none. Nothing is published so far, so what is open is settled too, and
--- clients are served by any store with no public file.
-abbrev pub machine : Option Files → Machine (Option (List ℕ)) StateView PlainCommand Refusal
-machine input = record { Valid = Valid; Step = Steps input; Open = Open; Settled = Open; Served = λ files s t. NothingPublic files; Sets = Sets; Moves = Moves; Opening = Opening }
+-- no staged file is there
+abbrev pub NoneStaged : Files → Type 0
+NoneStaged files = (q : Path) → IsTrue (is_staged q) → files q ≡ None
 
--- What files stand for hangs on no inbox. Where nothing is read from one, this is the machine.
-abbrev pub store : Machine (Option (List ℕ)) StateView PlainCommand Refusal
-store = machine None
+-- What files stand for. Nothing is published so far, so what is open is settled too, and clients are served by any store with
+-- no public file.
+abbrev pub store : Store Place
+store = record { Open = Open; Settled = Open; Served = λ files s t. NothingPublic files; Clean = NoneStaged }
+
+-- the machine of a call that is given this
+abbrev pub machine : Given → Machine (Option (List ℕ)) Place PlainCommand Refusal
+machine given = record { Valid = Valid; Step = Steps given; store = store; Sets = Sets; Moves = Moves; Opening = Opening }
+
+-- What is told apart where a call of these commands begins for this state: the package texts in the root, and the files of the pool
+-- and of the inbox, which tells them. The states that the commands lead to have no file of their own that could be confused.
+pub record Apart (given : Given) (files : Files) (state : Place) (commands : List PlainCommand) : Type 0 where
+  pub texts : RootApart files
+  pub bodies : BodiesApart given.inbox files

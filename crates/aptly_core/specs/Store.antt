@@ -1,5 +1,5 @@
 -- Which files of a store stand for which state.
-use Rattle.std.specs.Prelude.{◌≡◌, ◌≢◌, ◌⊎◌, ℕ, List, All, Contains, Option, Some, None, Result, Ok, Err, IsTrue, length, codes}
+use Rattle.std.specs.Prelude.{◌≡◌, ◌≢◌, ◌⊎◌, ℕ, List, ◌∷◌, ◌++◌, All, Option, Some, None, Result, Ok, Err, IsTrue, length, codes}
 use Rattle.ap_text.specs.Paths.{is_below}
 use Rattle.ap_host.specs.declared.host.HostErr.{HostErr}
 use Rattle.ap_host.specs.declared.host.HostErr.TheVariants.{Failed, OutOfMemory as NoMemory}
@@ -66,17 +66,19 @@ pub record BodiesApart (input : Option Files) (files : Files) : Type 0 where
   pub told : input ≡ Some inbox
   pub apart : DigestsApart files inbox
 
--- both
-pub record Apart (input : Option Files) (files : Files) : Type 0 where
-  pub texts : RootApart files
-  pub bodies : BodiesApart input files
+-- the first package of the list whose file is amiss, those before it having theirs
+pub record IsFirstAmiss (files : Files) (list : List Card) (p : Card) : Type 0 where
+  pub front : List Card
+  pub back : List Card
+  pub split : list ≡ front ++ p ∷ back
+  pub there : All (HasFile files) front
 
--- a package of the state whose text the root is
+-- the first such package that the state knows whose text the root is
 pub record IsListed (files : Files) (p : Card) : Type 0 where
   pub state : StateView
   pub valid : Valid state
   pub root : IsRootOf (files root) state
-  pub known : Contains state.known p
+  pub first : IsFirstAmiss files state.known p
 
 -- what is wrong with the file of a package: it isn't there, or has another length
 abbrev pub IsWrong : Files → Card → Damage → Type 0
@@ -85,7 +87,7 @@ IsWrong files p (Size path said found) = (path ≡ pool_name p.said.sha256) × (
 IsWrong files p (Digest path said found) = ⊥
 IsWrong files p (Unreadable path line) = ⊥
 
--- what is wrong in the files: a line of the root, or the file of a package that it tells
+-- what is wrong in the files: a line of the root, or the file of the first package that it tells and whose file is amiss
 abbrev pub IsDamage : Files → Damage → Type 0
 IsDamage files (Unreadable path line) = (path ≡ root) × (text : List ℕ) × (files root ≡ Some text) × IsFirstBadLine text line
 IsDamage files damage = (p : Card) × IsListed files p × IsWrong files p damage
@@ -128,7 +130,7 @@ IsLookedFor files p (Err OutOfMemory) = Unit {0}
 -- and one for the files of these packages
 abbrev pub AreLookedFor : {T : Type 0} → Files → List Card → Result T LoadFault → Type 0
 AreLookedFor files list (Ok x) = All (HasFile files) list
-AreLookedFor files list (Err (Damaged damage)) = (p : Card) × Contains list p × IsWrong files p damage
+AreLookedFor files list (Err (Damaged damage)) = (p : Card) × IsFirstAmiss files list p × IsWrong files p damage
 AreLookedFor files list (Err HostFault) = Unit {0}
 AreLookedFor files list (Err OutOfMemory) = Unit {0}
 

@@ -6,9 +6,9 @@ ghost use Rattle.command_words.specs.Plain.{plain};
 ghost use Rattle.machine_state.specs.State.{Valid};
 ghost use Rattle.machine_step.specs.Answers.{IsNew, Told, reading_for, seen};
 ghost use Rattle.machine_step.specs.Early.{folder_read};
-ghost use Rattle.machine_step.specs.Step.{Step};
+ghost use Rattle.machine_step.specs.Step.{Step, giving};
 ghost use Rattle.aptly_core.specs.declared.fault.RunFault.TheVariants.{HostFault, InboxFault};
-ghost use Rattle.aptly_core.specs.Arrives.{Arrives, ArrivesFor, Decides, DecidesIf, arrived_of};
+ghost use Rattle.aptly_core.specs.Arrives.{Arrives, ArrivesFor, Decides, arrived_of};
 
 use crate::fault::RunFault;
 use ap_host::{Host, Inbox};
@@ -43,7 +43,7 @@ fn arrive<H: Host, I: Inbox>(
     reading: Reading,
 ) -> Result<Arrived, RunFault>
     ensures arrived { Valid state.now → IfOk result (ArrivesFor (I.map inbox.old) state.now reading) }
-    ensures log { GoesOn (H.log host.old) (H.log host.new) (Arrives (I.map inbox.old) state.now stage.old stage.new result) }
+    ensures log { GoesOn (H.log host.old) (H.log host.new) (Arrives (I.map inbox.old) state.now reading stage.old stage.new result) }
     ensures map { I.map inbox.new ≡ I.map inbox.old }
     ensures host_cause { CauseOf HostFault (H.faults host.old) (H.faults host.new) result }
     ensures inbox_cause { CauseOf InboxFault (I.faults inbox.old) (I.faults inbox.new) result }
@@ -66,21 +66,21 @@ fn decide_with<H: Host, I: Inbox, M: Patterns>(
     stage: &mut Stage,
     state: &State,
     command: &Command,
-    now: i64,
+    now: &i64,
     patterns: &mut M,
     reading: Reading,
 ) -> Result<Outcome, RunFault>
-    ensures comes { Valid state.now → reading ≡ reading_for (folder_read state.now (plain command.now)) → IfOk result (λ outcome. Told (M.refusals patterns.old) (M.refusals patterns.new) (M.refused patterns.new) (λ large. Step (I.map inbox.old) large state.now (plain command.now) (seen state.now outcome))) }
+    ensures comes { Valid state.now → reading ≡ reading_for (folder_read state.now (plain command.now)) → IfOk result (λ outcome. Told (M.refusals patterns.old) (M.refusals patterns.new) (M.refused patterns.new) (λ large. Step (giving (I.map inbox.old) now.now) large state.now (plain command.now) (seen state.now outcome))) }
     ensures changed { Valid state.now → reading ≡ reading_for (folder_read state.now (plain command.now)) → IfOk result (λ outcome. IsNew state.now outcome.state) }
     ensures kept { IfOk result (λ outcome. IsSome outcome.refusal → outcome.state ≡ None) }
     ensures later { M.refusals patterns.old ≤ M.refusals patterns.new }
-    ensures log { GoesOn (H.log host.old) (H.log host.new) (DecidesIf (reading ≡ reading_for (folder_read state.now (plain command.now))) (I.map inbox.old) state.now stage.old stage.new result) }
+    ensures log { GoesOn (H.log host.old) (H.log host.new) (Decides (reading ≡ reading_for (folder_read state.now (plain command.now))) (I.map inbox.old) state.now (plain command.now) stage.old stage.new result) }
     ensures map { I.map inbox.new ≡ I.map inbox.old }
     ensures host_cause { CauseOf HostFault (H.faults host.old) (H.faults host.new) result }
     ensures inbox_cause { CauseOf InboxFault (I.faults inbox.old) (I.faults inbox.new) result }
 {
     let arrived = arrive(alloc, host, inbox, stage, state, reading)?;
-    Ok(step(alloc, state, command, arrived, now, patterns)?)
+    Ok(step(alloc, state, command, arrived, *now, patterns)?)
 }
 
 /// What a command comes to in a valid state. Files that it takes in are in the pool then, and durable only after the next
@@ -92,14 +92,14 @@ pub fn decide<H: Host, I: Inbox, M: Patterns>(
     stage: &mut Stage,
     state: &State,
     command: &Command,
-    now: i64,
+    now: &i64,
     patterns: &mut M,
 ) -> Result<Outcome, RunFault>
-    ensures comes { Valid state.now → IfOk result (λ outcome. Told (M.refusals patterns.old) (M.refusals patterns.new) (M.refused patterns.new) (λ large. Step (I.map inbox.old) large state.now (plain command.now) (seen state.now outcome))) }
+    ensures comes { Valid state.now → IfOk result (λ outcome. Told (M.refusals patterns.old) (M.refusals patterns.new) (M.refused patterns.new) (λ large. Step (giving (I.map inbox.old) now.now) large state.now (plain command.now) (seen state.now outcome))) }
     ensures changed { Valid state.now → IfOk result (λ outcome. IsNew state.now outcome.state) }
     ensures kept { IfOk result (λ outcome. IsSome outcome.refusal → outcome.state ≡ None) }
     ensures later { M.refusals patterns.old ≤ M.refusals patterns.new }
-    ensures log { GoesOn (H.log host.old) (H.log host.new) (Decides (I.map inbox.old) state.now stage.old stage.new result) }
+    ensures log { GoesOn (H.log host.old) (H.log host.new) (Decides (Valid state.now) (I.map inbox.old) state.now (plain command.now) stage.old stage.new result) }
     ensures map { I.map inbox.new ≡ I.map inbox.old }
     ensures host_cause { CauseOf HostFault (H.faults host.old) (H.faults host.new) result }
     ensures inbox_cause { CauseOf InboxFault (I.faults inbox.old) (I.faults inbox.new) result }

@@ -10,6 +10,8 @@ mod run;
 mod status;
 
 pub use fault::RunFault;
-pub use laws::{calls_hand_over, stored_states_are_equal};
+pub use laws::{
+    calls_begin_on_nothing, calls_hand_over, calls_that_say_hand_over, stored_states_are_equal,
+};
 pub use run::{aptly, run_one};
 pub use status::{Damage, Status};

@@ -1,20 +1,24 @@
 //! Runs of commands over a store.
-ghost use Rattle.std.specs.Prelude.{◌≡◌, ◌≤◌, ℕ, List, Option, IfOk, IfErr, Err, map};
+ghost use Rattle.std.specs.Prelude.{◌≡◌, ◌≢◌, ◌≤◌, ℕ, List, Option, IfOk, IfErr, OnOk, Err, map, codes};
+ghost use Rattle.ap_host.specs.declared.host.HostErr.TheVariants as HostErr;
 ghost use Rattle.ap_host.specs.Calls.{CauseOf, HasCause, Rose};
 ghost use Rattle.ap_host.specs.Changes.{GoesOn};
 ghost use Rattle.command_words.specs.Commands as spelled;
-ghost use Rattle.command_words.specs.Commands.{IsUsagePlace};
-ghost use Rattle.command_words.specs.Plain.{plain};
+ghost use Rattle.command_words.specs.Commands.{IsUsagePlace, is_first};
+ghost use Rattle.command_words.specs.Fault.{IsAt};
+ghost use Rattle.command_words.specs.Plain.{PlainCommand, plain};
 ghost use Rattle.machine_state.specs.State.{Valid};
 ghost use Rattle.machine_step.specs.Answers.{IsTold};
+ghost use Rattle.machine_step.specs.Step.{giving};
 ghost use Rattle.aptly_core.specs.declared.fault.RunFault.TheVariants.{HostFault, InboxFault};
 ghost use Rattle.aptly_core.specs.declared.status.Status.TheVariants as Status;
 ghost use Rattle.aptly_core.specs.declared.catalogue_root.LoadFault.TheVariants as LoadFault;
 ghost use Rattle.aptly_core.specs.declared.status.Damage.{Damage};
 ghost use Rattle.aptly_core.specs.Commits.{Saves};
-ghost use Rattle.aptly_core.specs.Calls.{Called, CalledWith, IsUsageAnswer, SaysUsage, TellsUsage};
-ghost use Rattle.aptly_core.specs.Opens.{Enters, SettlesTo, OpensTo, RunsClaimed, IsClaimedStatus, status_of_load};
-ghost use Rattle.aptly_core.specs.Runs.{RunsOne, RunsList, ComesTo, EndsWith, IsRunStatus, Turns, TurnComes, IsTurnEnd, status_of_fault, next_of_done};
+ghost use Rattle.aptly_core.specs.Calls.{asked, Called, CalledWith, IsUsageAnswer, SaysUsage, TellsUsage};
+ghost use Rattle.aptly_core.specs.Opens.{Enters, SettlesTo, OpensTo, RunsClaimed, IsClaimedStatus, IsFault, status_of_load};
+ghost use Rattle.aptly_core.specs.Runs.{RunsOne, RunsList, ComesTo, EndsFrom, EndsWith, IsEnd, IsRunStatus, Turns, TurnComes, IsTurnEnd, status_of_fault, next_of_done};
+ghost use Rattle.aptly_core.specs.Status.{status_of_host};
 ghost use Rattle.aptly_core.specs.Store.{DiffersIn, IsDifference};
 
 use crate::catalogue_root::{LoadFault, commit, load};
@@ -46,6 +50,30 @@ fn save<H: Host>(
     }
 }
 
+/// Runs one command in a valid state, at this moment.
+fn run_in<H: Host, I: Inbox, M: Patterns>(
+    alloc: Global,
+    host: &mut H,
+    inbox: &mut I,
+    stage: &mut Stage,
+    state: State,
+    command: &Command,
+    now: &i64,
+    patterns: &mut M,
+) -> Result<(State, Option<Refusal>), RunFault>
+    ensures comes { Valid state → IfOk result (ComesTo (giving (I.map inbox.old) now.now) (IsTold (M.refusals patterns.old) (M.refusals patterns.new) (M.refused patterns.new)) state (plain command.now)) }
+    ensures log { GoesOn (H.log host.old) (H.log host.new) (RunsOne (giving (I.map inbox.old) now.now) (IsTold (M.refusals patterns.old) (M.refusals patterns.new) (M.refused patterns.new)) state (plain command.now) stage.old stage.new result) }
+    ensures host_cause { CauseOf HostFault (H.faults host.old) (H.faults host.new) result }
+    ensures inbox_cause { CauseOf InboxFault (I.faults inbox.old) (I.faults inbox.new) result }
+    ensures map { I.map inbox.new ≡ I.map inbox.old }
+    ensures later { M.refusals patterns.old ≤ M.refusals patterns.new }
+{
+    let outcome = decide(alloc, host, inbox, stage, &state, command, now, patterns)?;
+    save(alloc, host, stage, &state, &outcome.state)?;
+    host.say(outcome.reply.as_str().as_bytes())?;
+    Ok((outcome.state.unwrap_or(state), outcome.refusal))
+}
+
 /// Runs one command in a valid state: its step, its commit where the state changes, and its reply. `now` is in seconds since
 /// 1970. A refusal is a reply too. `HostFault` comes only where a call of the host failed, and `InboxFault` only where one of
 /// the inbox did.
@@ -59,19 +87,29 @@ pub fn run_one<H: Host, I: Inbox, M: Patterns>(
     now: i64,
     patterns: &mut M,
 ) -> Result<(State, Option<Refusal>), RunFault>
-    ensures comes { Valid state → IfOk result (ComesTo (I.map inbox.old) (IsTold (M.refusals patterns.old) (M.refusals patterns.new) (M.refused patterns.new)) state (plain command.now)) }
-    ensures log { GoesOn (H.log host.old) (H.log host.new) (RunsOne (I.map inbox.old) (IsTold (M.refusals patterns.old) (M.refusals patterns.new) (M.refused patterns.new)) state (plain command.now) stage.old stage.new result) }
+    ensures comes { Valid state → IfOk result (ComesTo (giving (I.map inbox.old) now) (IsTold (M.refusals patterns.old) (M.refusals patterns.new) (M.refused patterns.new)) state (plain command.now)) }
+    ensures log { GoesOn (H.log host.old) (H.log host.new) (RunsOne (giving (I.map inbox.old) now) (IsTold (M.refusals patterns.old) (M.refusals patterns.new) (M.refused patterns.new)) state (plain command.now) stage.old stage.new result) }
     ensures host_cause { CauseOf HostFault (H.faults host.old) (H.faults host.new) result }
     ensures inbox_cause { CauseOf InboxFault (I.faults inbox.old) (I.faults inbox.new) result }
     ensures map { I.map inbox.new ≡ I.map inbox.old }
     ensures later { M.refusals patterns.old ≤ M.refusals patterns.new }
 {
-    let outcome = decide(alloc, host, inbox, stage, &state, command, now, patterns)?;
-    save(alloc, host, stage, &state, &outcome.state)?;
-    host.say(outcome.reply.as_str().as_bytes())?;
-    Ok((outcome.state.unwrap_or(state), outcome.refusal))
+    run_in(alloc, host, inbox, stage, state, command, &now, patterns)
 }
 
+/// How a call ends whose host gave this error.
+fn status_of_host(error: HostErr) -> Status
+    ensures value { result ≡ status_of_host error }
+    ensures host { result ≡ Status.HostFault → error ≡ HostErr.Failed }
+    ensures fault { IsFault result }
+{
+    match error {
+        HostErr::Failed => Status::HostFault,
+        HostErr::OutOfMemory => Status::OutOfMemory,
+    }
+}
+
+/// How a list ends with a command that broke off.
 fn status_of(fault: RunFault) -> Status
     ensures { result ≡ status_of_fault fault }
 {
@@ -101,11 +139,11 @@ fn turn<H: Host, I: Inbox, M: Patterns>(
     stage: &mut Stage,
     state: State,
     command: &Command,
-    now: i64,
+    now: &i64,
     patterns: &mut M,
 ) -> Result<State, Status>
-    ensures comes { Valid state → TurnComes (I.map inbox.old) (IsTold (M.refusals patterns.old) (M.refusals patterns.new) (M.refused patterns.new)) state (plain command.now) result }
-    ensures log { GoesOn (H.log host.old) (H.log host.new) (Turns (I.map inbox.old) (IsTold (M.refusals patterns.old) (M.refusals patterns.new) (M.refused patterns.new)) state (plain command.now) stage.old stage.new result) }
+    ensures comes { Valid state → TurnComes (giving (I.map inbox.old) now.now) (IsTold (M.refusals patterns.old) (M.refusals patterns.new) (M.refused patterns.new)) state (plain command.now) result }
+    ensures log { GoesOn (H.log host.old) (H.log host.new) (Turns (giving (I.map inbox.old) now.now) (IsTold (M.refusals patterns.old) (M.refusals patterns.new) (M.refused patterns.new)) state (plain command.now) stage.old stage.new result) }
     ensures host_later { H.faults host.old ≤ H.faults host.new }
     ensures host_fault { result ≡ Err Status.HostFault → Rose (H.faults host.old) (H.faults host.new) }
     ensures inbox_later { I.faults inbox.old ≤ I.faults inbox.new }
@@ -114,7 +152,7 @@ fn turn<H: Host, I: Inbox, M: Patterns>(
     ensures later { M.refusals patterns.old ≤ M.refusals patterns.new }
     ensures only { IfErr result IsTurnEnd }
 {
-    match run_one(alloc, host, inbox, stage, state, command, now, patterns) {
+    match run_in(alloc, host, inbox, stage, state, command, now, patterns) {
         Ok(done) => next_of(done),
         Err(fault) => Err(status_of(fault)),
     }
@@ -128,11 +166,11 @@ fn run_list<H: Host, I: Inbox, M: Patterns>(
     stage: &mut Stage,
     state: State,
     commands: &[Command],
-    now: i64,
+    now: &i64,
     patterns: &mut M,
 ) -> Status
-    ensures comes { Valid state → EndsWith (I.map inbox.old) (IsTold (M.refusals patterns.old) (M.refusals patterns.new) (M.refused patterns.new)) state (map plain commands.now) result }
-    ensures log { GoesOn (H.log host.old) (H.log host.new) (RunsList (I.map inbox.old) (IsTold (M.refusals patterns.old) (M.refusals patterns.new) (M.refused patterns.new)) state (map plain commands.now) stage.old result) }
+    ensures comes { Valid state → EndsWith (giving (I.map inbox.old) now.now) (IsTold (M.refusals patterns.old) (M.refusals patterns.new) (M.refused patterns.new)) state (map plain commands.now) result }
+    ensures log { GoesOn (H.log host.old) (H.log host.new) (RunsList (giving (I.map inbox.old) now.now) (IsTold (M.refusals patterns.old) (M.refusals patterns.new) (M.refused patterns.new)) state (map plain commands.now) stage.old result) }
     ensures host_later { H.faults host.old ≤ H.faults host.new }
     ensures host_fault { result ≡ Status.HostFault → Rose (H.faults host.old) (H.faults host.new) }
     ensures inbox_later { I.faults inbox.old ≤ I.faults inbox.new }
@@ -215,10 +253,11 @@ fn run_claimed<H: Host, I: Inbox, M: Patterns>(
     host: &mut H,
     inbox: &mut I,
     commands: &[Command],
-    now: i64,
+    now: &i64,
     patterns: &mut M,
 ) -> Status
-    ensures log { GoesOn (H.log host.old) (H.log host.new) (RunsClaimed (I.map inbox.old) (IsTold (M.refusals patterns.old) (M.refusals patterns.new) (M.refused patterns.new)) (map plain commands.now) result) }
+    ensures ended { IsEnd result → EndsFrom (giving (I.map inbox.old) now.now) (IsTold (M.refusals patterns.old) (M.refusals patterns.new) (M.refused patterns.new)) (map plain commands.now) result }
+    ensures log { GoesOn (H.log host.old) (H.log host.new) (RunsClaimed (giving (I.map inbox.old) now.now) (IsTold (M.refusals patterns.old) (M.refusals patterns.new) (M.refused patterns.new)) (map plain commands.now) result) }
     ensures host_later { H.faults host.old ≤ H.faults host.new }
     ensures host_fault { result ≡ Status.HostFault → Rose (H.faults host.old) (H.faults host.new) }
     ensures inbox_later { I.faults inbox.old ≤ I.faults inbox.new }
@@ -241,10 +280,11 @@ fn run_commands<H: Host, I: Inbox, M: Patterns>(
     host: &mut H,
     inbox: &mut I,
     commands: &[Command],
-    now: i64,
+    now: &i64,
     patterns: &mut M,
 ) -> Status
-    ensures log { GoesOn (H.log host.old) (H.log host.new) (Called (I.map inbox.old) (IsTold (M.refusals patterns.old) (M.refusals patterns.new) (M.refused patterns.new)) (map plain commands.now) result) }
+    ensures ended { IsEnd result → EndsFrom (giving (I.map inbox.old) now.now) (IsTold (M.refusals patterns.old) (M.refusals patterns.new) (M.refused patterns.new)) (map plain commands.now) result }
+    ensures log { GoesOn (H.log host.old) (H.log host.new) (Called (giving (I.map inbox.old) now.now) (IsTold (M.refusals patterns.old) (M.refusals patterns.new) (M.refused patterns.new)) (map plain commands.now) result) }
     ensures host_later { H.faults host.old ≤ H.faults host.new }
     ensures host_fault { result ≡ Status.HostFault → Rose (H.faults host.old) (H.faults host.new) }
     ensures inbox_later { I.faults inbox.old ≤ I.faults inbox.new }
@@ -255,9 +295,29 @@ fn run_commands<H: Host, I: Inbox, M: Patterns>(
     match enter(host) {
         Ok(true) => run_claimed(alloc, host, inbox, commands, now, patterns),
         Ok(false) => Status::Busy,
-        Err(HostErr::Failed) => Status::HostFault,
-        Err(HostErr::OutOfMemory) => Status::OutOfMemory,
+        Err(error) => status_of_host(error),
     }
+}
+
+/// The call of commands at this moment.
+fn run_now<H: Host, I: Inbox, M: Patterns>(
+    alloc: Global,
+    host: &mut H,
+    inbox: &mut I,
+    commands: &[Command],
+    now: i64,
+    patterns: &mut M,
+) -> Status
+    ensures ended { IsEnd result → EndsFrom (giving (I.map inbox.old) now) (IsTold (M.refusals patterns.old) (M.refusals patterns.new) (M.refused patterns.new)) (map plain commands.now) result }
+    ensures log { GoesOn (H.log host.old) (H.log host.new) (Called (giving (I.map inbox.old) now) (IsTold (M.refusals patterns.old) (M.refusals patterns.new) (M.refused patterns.new)) (map plain commands.now) result) }
+    ensures host_later { H.faults host.old ≤ H.faults host.new }
+    ensures host_fault { result ≡ Status.HostFault → Rose (H.faults host.old) (H.faults host.new) }
+    ensures inbox_later { I.faults inbox.old ≤ I.faults inbox.new }
+    ensures inbox_fault { result ≡ Status.InboxFault → Rose (I.faults inbox.old) (I.faults inbox.new) }
+    ensures differs { (damage : Damage) → result ≡ Status.Damaged damage → IsDifference damage }
+    ensures only { (place : ℕ) → result ≡ Status.Usage place → ⊥ }
+{
+    run_commands(alloc, host, inbox, commands, &now, patterns)
 }
 
 /// Says the usage line.
@@ -279,9 +339,32 @@ fn tell_usage<H: Host>(alloc: Global, host: &mut H, place: u64) -> Status
 {
     match say_usage(alloc, host, place) {
         Ok(()) => Status::Usage(place),
-        Err(HostErr::Failed) => Status::HostFault,
-        Err(HostErr::OutOfMemory) => Status::OutOfMemory,
+        Err(error) => status_of_host(error),
     }
+}
+
+fn is_demo(words: &Words) -> bool
+    ensures { result ≡ is_first (codes "demo") words.now }
+{
+    match words.as_slice() {
+        [first, ..] => first.as_str() == "demo",
+        [] => false,
+    }
+}
+
+/// The commands that the words ask for. As long as its archive isn't made, `demo` is one command that isn't built.
+fn asked(alloc: Global, words: &Words) -> Result<Vec<Command>, WordFault>
+    ensures read { IfOk result (λ cs. asked words.now ≡ Option.Some (map plain cs.items)) }
+    ensures spelled { OnOk result (spelled.commands words.now ≢ Option.None) }
+    ensures fault { IfErr result (IsAt (IsUsagePlace words.now)) }
+{
+    let commands = read_words(alloc, words)?;
+    if !is_demo(words) {
+        return Ok(commands);
+    }
+    let mut one = Vec::new(alloc);
+    one.push(Command::DbCleanup)?;
+    Ok(one)
 }
 
 /// One call of the program. It claims the store, makes what it holds durable, loads it, and runs the commands that the words
@@ -299,7 +382,9 @@ pub fn aptly<H: Host, I: Inbox, M: Patterns>(
     patterns: &mut M,
 ) -> Status
     // What the call did, on a host that tells its log.
-    ensures log { GoesOn (H.log host.old) (H.log host.new) (CalledWith words.now (I.map inbox.old) (IsTold (M.refusals patterns.old) (M.refusals patterns.new) (M.refused patterns.new)) (Rose (H.faults host.old) (H.faults host.new)) (Rose (I.faults inbox.old) (I.faults inbox.new)) result) }
+    ensures log { GoesOn (H.log host.old) (H.log host.new) (CalledWith words.now (giving (I.map inbox.old) now) (IsTold (M.refusals patterns.old) (M.refusals patterns.new) (M.refused patterns.new)) (Rose (H.faults host.old) (H.faults host.new)) (Rose (I.faults inbox.old) (I.faults inbox.new)) result) }
+    // On every host: a call that ended came from a valid state, and ends as the commands say from there.
+    ensures ended { IsEnd result → (commands : List PlainCommand) × (asked words.now ≡ Option.Some commands) × EndsFrom (giving (I.map inbox.old) now) (IsTold (M.refusals patterns.old) (M.refusals patterns.new) (M.refused patterns.new)) commands result }
     // On every host: the usage place is the words'.
     ensures usage_place { (place : ℕ) → result ≡ Status.Usage place → IsUsagePlace words.now place }
     // And words that spell no commands are answered so, but for a fault of the host or want of memory.
@@ -312,8 +397,8 @@ pub fn aptly<H: Host, I: Inbox, M: Patterns>(
     ensures host_later { H.faults host.old ≤ H.faults host.new }
     ensures inbox_later { I.faults inbox.old ≤ I.faults inbox.new }
 {
-    match read_words(alloc, words) {
-        Ok(commands) => run_commands(alloc, host, inbox, &commands, now, patterns),
+    match asked(alloc, words) {
+        Ok(commands) => run_now(alloc, host, inbox, &commands, now, patterns),
         Err(WordFault::At { place }) => tell_usage(alloc, host, place),
         Err(WordFault::OutOfMemory) => Status::OutOfMemory,
     }

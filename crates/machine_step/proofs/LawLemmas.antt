@@ -33,7 +33,7 @@ use Rattle.local_repo.specs.Answers.{IsArrival}
 use Rattle.local_repo.specs.Fits.{FitsIn}
 use Rattle.machine_step.specs.Queries.{IsPick}
 use Rattle.machine_step.specs.Early.{AfterNames, early, conditions, Refuses, folder_read, or_else, bad_name, taken, flagged}
-use Rattle.machine_step.specs.Step.{Came, new_repo, refused, told, created, taken_in, done, came_to, MayArriveFor, MayArrive, Step}
+use Rattle.machine_step.specs.Step.{Given, Came, new_repo, refused, told, created, taken_in, done, came_to, MayArriveFor, MayArrive, Step}
 
 -- every reply is some bytes
 pub line_some : (text : List ℕ) → line text ≢ []
@@ -112,14 +112,14 @@ fine_came : (state : StateView) (command : PlainCommand) (arrived : Arrived) (re
 fine_came state command arrived None = fine_done state command arrived
 fine_came state command arrived (Some refusal) = fine_refused state refusal
 
-fine_step : (files : Option Files) (large : Option (List ℕ)) (state : StateView) (command : PlainCommand) (came : Came) → Step files large state command came → Fine state came
-fine_step files large state command came s = subst (Fine state) (sym s.2.2) (fine_came state command s.0 s.2.0)
+fine_step : (given : Given) (large : Option (List ℕ)) (state : StateView) (command : PlainCommand) (came : Came) → Step given large state command came → Fine state came
+fine_step given large state command came s = subst (Fine state) (sym s.2.2) (fine_came state command s.0 s.2.0)
 
-pub says_step : (files : Option Files) (large : Option (List ℕ)) (state : StateView) (command : PlainCommand) (came : Came) → Step files large state command came → came.reply ≢ []
-says_step files large state command came s = (fine_step files large state command came s).says
+pub says_step : (given : Given) (large : Option (List ℕ)) (state : StateView) (command : PlainCommand) (came : Came) → Step given large state command came → came.reply ≢ []
+says_step given large state command came s = (fine_step given large state command came s).says
 
-pub kept_step : (files : Option Files) (large : Option (List ℕ)) (state : StateView) (command : PlainCommand) (came : Came) → Step files large state command came → IsSome came.refusal → came.state ≡ state
-kept_step files large state command came s = (fine_step files large state command came s).kept
+pub kept_step : (given : Given) (large : Option (List ℕ)) (state : StateView) (command : PlainCommand) (came : Came) → Step given large state command came → IsSome came.refusal → came.state ≡ state
+kept_step given large state command came s = (fine_step given large state command came s).kept
 
 all_cons : {X : Type 0} (P : X → Type 0) (x : X) (xs : List X) → P x → All P xs → All P (x ∷ xs)
 all_cons P x xs p all zero d l = p
@@ -173,9 +173,9 @@ arrives some (Some f) state (Some (name, folder)) = let a = some f state name fo
     by_arrival (Ok list) e = (arrivals.List list [], (refl, e))
     by_arrival (Err refusal) e = (arrivals.Refused refusal, e)
 
-pub total_step : Some_arrives → (files : Option Files) (large : Option (List ℕ)) (state : StateView) (command : PlainCommand) → (came : Came) × Step files large state command came
-total_step some files large state command =
-    let a = arrives some files state (folder_read state command) in
+pub total_step : Some_arrives → (given : Given) (large : Option (List ℕ)) (state : StateView) (command : PlainCommand) → (came : Came) × Step given large state command came
+total_step some given large state command =
+    let a = arrives some given.inbox state (folder_read state command) in
     let r = refuses_some large state command in
     (came_to state command a.0 r.0, (a.0, a.1, (r.0, r.1, refl)))
 
@@ -263,21 +263,21 @@ valid_taken fit files state name folder (arrivals.Refused refusal) v h = v
 valid_taken fit files state name folder arrivals.Nothing v h = v
 
 -- what arrives for an addition that goes on
-pub arrived_for : (files : Option Files) (state : StateView) (name folder : List ℕ) (arrived : Arrived) → early state (repo_add name folder) ≡ None → MayArrive files state (repo_add name folder) arrived → IsArrival files state name folder arrived
-arrived_for files state name folder arrived e h = subst (λ (o : Option (List ℕ × List ℕ)). MayArriveFor files state o arrived) (reads_folder state name folder e) h
+pub arrived_for : (given : Given) (state : StateView) (name folder : List ℕ) (arrived : Arrived) → early state (repo_add name folder) ≡ None → MayArrive given state (repo_add name folder) arrived → IsArrival given.inbox state name folder arrived
+arrived_for given state name folder arrived e h = subst (λ (o : Option (List ℕ × List ℕ)). MayArriveFor given.inbox state o arrived) (reads_folder state name folder e) h
 
-valid_done : Fit → (files : Option Files) (state : StateView) (command : PlainCommand) (arrived : Arrived) → Valid state → early state command ≡ None → MayArrive files state command arrived → Valid (done state command arrived).state
+valid_done : Fit → (given : Given) (state : StateView) (command : PlainCommand) (arrived : Arrived) → Valid state → early state command ≡ None → MayArrive given state command arrived → Valid (done state command arrived).state
 unfolding done early
-valid_done fit files state (repo_create comment distribution component name) arrived v e m = valid_created state name v (name_good (taken state.repos name) name (second_none (flagged comment distribution component) _ e))
-valid_done fit files state (repo_add name folder) arrived v e m = valid_taken fit files state name folder arrived v (arrived_for files state name folder arrived e m)
-valid_done fit files state (repo_show packages name) arrived v e m = v
-valid_done fit files state (package_search query) arrived v e m = v
-valid_done fit files state (package_show query) arrived v e m = v
-valid_done fit files state command arrived v e m = v
+valid_done fit given state (repo_create comment distribution component name) arrived v e m = valid_created state name v (name_good (taken state.repos name) name (second_none (flagged comment distribution component) _ e))
+valid_done fit given state (repo_add name folder) arrived v e m = valid_taken fit given.inbox state name folder arrived v (arrived_for given state name folder arrived e m)
+valid_done fit given state (repo_show packages name) arrived v e m = v
+valid_done fit given state (package_search query) arrived v e m = v
+valid_done fit given state (package_show query) arrived v e m = v
+valid_done fit given state command arrived v e m = v
 
-pub valid_step : Fit → (files : Option Files) (large : Option (List ℕ)) (state : StateView) (command : PlainCommand) (came : Came) → Valid state → Step files large state command came → Valid came.state
-valid_step fit files large state command came v s = subst (λ (c : Came). Valid c.state) (sym s.2.2) (by_refusal s.2.0 s.2.1)
+pub valid_step : Fit → (given : Given) (large : Option (List ℕ)) (state : StateView) (command : PlainCommand) (came : Came) → Valid state → Step given large state command came → Valid came.state
+valid_step fit given large state command came v s = subst (λ (c : Came). Valid c.state) (sym s.2.2) (by_refusal s.2.0 s.2.1)
   where
     by_refusal : (refusal : Option Refusal) → Refuses large state command refusal → Valid (came_to state command s.0 refusal).state
     by_refusal (Some refusal) h = v
-    by_refusal None h = valid_done fit files state command s.0 v (passed large state command h) s.1
+    by_refusal None h = valid_done fit given state command s.0 v (passed large state command h) s.1

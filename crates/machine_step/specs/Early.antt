@@ -1,8 +1,8 @@
 -- Why a command is refused before anything is read for it.
-use Rattle.std.specs.Prelude.{◌≡◌, ℕ, ◌&&◌, Bool, List, [], Option, Some, None, Result, Ok, Err, length, nat_le, is_some, if◌then◌else◌}
+use Rattle.std.specs.Prelude.{◌≡◌, ℕ, ◌&&◌, Bool, true, false, List, [], Option, Some, None, Result, Ok, Err, length, nat_le, is_some, if◌then◌else◌}
 use Rattle.ap_text.specs.Names.{is_name}
 use Rattle.ap_text.specs.Paths.{is_safe_path}
-use Rattle.command_words.specs.Plain.{PlainCommand, repo_create, repo_add, repo_show, package_search, package_show}
+use Rattle.command_words.specs.Plain.{PlainCommand, repo_create, repo_add, repo_show, publish_switch, publish_update, publish_drop, package_search, package_show, db_cleanup}
 use Rattle.query_tree.specs.Tree.{Tree}
 use Rattle.query_grammar.specs.Said.{query_of}
 use Rattle.machine_state.specs.declared.limit.Kind.TheVariants.{Repo}
@@ -75,3 +75,11 @@ Refuses large state command refusal = AfterNames large (conditions command) (ear
 unfoldable pub folder_read : StateView → PlainCommand → Option (List ℕ × List ℕ)
 folder_read state (repo_add name folder) = if is_some (early state (repo_add name folder)) then None else Some (name, folder)
 folder_read state command = None
+
+-- the commands that are to remove files: what is published no more, or what nothing needs
+abbrev pub is_to_remove : PlainCommand → Bool
+is_to_remove (publish_switch components distribution prefix snapshots) = true
+is_to_remove (publish_update distribution prefix) = true
+is_to_remove (publish_drop distribution prefix) = true
+is_to_remove db_cleanup = true
+is_to_remove command = false

@@ -1,5 +1,5 @@
 -- One step of the machine: what a command comes to in a state.
-use Rattle.std.specs.Prelude.{◌≡◌, ℕ, ◌-◌, false, List, [], Option, Some, None, nat_le, length, codes, unwrap_or, if◌then◌else◌}
+use Rattle.std.specs.Prelude.{◌≡◌, ℕ, ℤ, ◌-◌, false, List, [], Option, Some, None, nat_le, length, codes, unwrap_or, if◌then◌else◌}
 use Rattle.ap_host.specs.Disk.{Files}
 use Rattle.package_core.specs.Card.{Card}
 use Rattle.package_list.specs.Lists.{union}
@@ -22,6 +22,14 @@ use Rattle.reply_text.specs.Replies as replies
 use Rattle.query_grammar.specs.Said.{query_of}
 use Rattle.machine_step.specs.Queries.{found_by}
 use Rattle.machine_step.specs.Early.{Refuses, folder_read}
+
+-- What a call is given: the files of its inbox, where the inbox tells them, and the moment, in seconds since 1970.
+pub record Given : Type 0 where
+  pub inbox : Option Files
+  pub now : ℤ
+
+abbrev pub giving : Option Files → ℤ → Given
+giving inbox now = record { inbox = inbox; now = now }
 
 -- a repository as it is made: no comment, no distribution, the component `main`, no package
 abbrev pub new_repo : List ℕ → Repo
@@ -80,13 +88,13 @@ abbrev pub MayArriveFor : Option Files → StateView → Option (List ℕ × Lis
 MayArriveFor files state None arrived = arrived ≡ arrivals.Nothing
 MayArriveFor files state (Some (name, folder)) arrived = IsArrival files state name folder arrived
 
-abbrev pub MayArrive : Option Files → StateView → PlainCommand → Arrived → Type 0
-MayArrive files state command arrived = MayArriveFor files state (folder_read state command) arrived
+abbrev pub MayArrive : Given → StateView → PlainCommand → Arrived → Type 0
+MayArrive given state command arrived = MayArriveFor given.inbox state (folder_read state command) arrived
 
 -- the command comes to this with what arrived, in a call whose pattern builder refused this text for its size
 abbrev pub StepWith : Option (List ℕ) → StateView → PlainCommand → Arrived → Came → Type 0
 StepWith large state command arrived came = (refusal : Option Refusal) × Refuses large state command refusal × (came ≡ came_to state command arrived refusal)
 
--- The command may come to this in this state, with the files of this inbox.
-abbrev pub Step : Option Files → Option (List ℕ) → StateView → PlainCommand → Came → Type 0
-Step files large state command came = (arrived : Arrived) × MayArrive files state command arrived × StepWith large state command arrived came
+-- The command may come to this in this state, in a call that is given this.
+abbrev pub Step : Given → Option (List ℕ) → StateView → PlainCommand → Came → Type 0
+Step given large state command came = (arrived : Arrived) × MayArrive given state command arrived × StepWith large state command arrived came

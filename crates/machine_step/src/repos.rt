@@ -1,6 +1,5 @@
 //! Steps of commands on local repositories.
 ghost use Rattle.std.specs.Prelude.{◌≡◌, ◌≤◌, ℕ, List, All, IfOk, IfErr, IsTrue, None, Option, Some, insert, is_some, length, map};
-ghost use Rattle.ap_host.specs.Disk.{Files};
 ghost use Rattle.command_words.specs.Plain.{repo_create, repo_add, repo_show};
 ghost use Rattle.local_repo.specs.Arrival.{list_of};
 ghost use Rattle.local_repo.specs.Fits.{FitsIn, added, with_more as with_more_of};
@@ -11,7 +10,7 @@ ghost use Rattle.machine_state.specs.declared.arrived.Arrived.{Arrived as Arrive
 ghost use Rattle.machine_state.specs.declared.arrived.Arrived.TheVariants as arrivals;
 ghost use Rattle.reply_text.specs.Replies.{repo_created as created_line};
 ghost use Rattle.machine_step.specs.Answers.{FaultIs, IsMemory, IsNew, changed};
-ghost use Rattle.machine_step.specs.Step.{new_repo as made, MayArrive, StepWith, refused, taken_in};
+ghost use Rattle.machine_step.specs.Step.{Given, new_repo as made, MayArrive, StepWith, refused, taken_in};
 
 use crate::checks::there;
 use crate::early::{add_early, create_early, show_early};
@@ -170,9 +169,9 @@ pub(crate) fn add(
     folder: &Text,
     arrived: &Arrived,
 ) -> Result<Change, ChangeFault>
-    ensures ok { (files : Option Files) → Valid state.now → MayArrive files state.now (repo_add name.now folder.now) arrived.now → IfOk result (λ change. StepWith None state.now (repo_add name.now folder.now) arrived.now (changed state.now change)) }
-    ensures fault { (files : Option Files) → Valid state.now → MayArrive files state.now (repo_add name.now folder.now) arrived.now → IfErr result (FaultIs (λ refusal. StepWith None state.now (repo_add name.now folder.now) arrived.now (refused state.now refusal))) }
-    ensures new { (files : Option Files) → Valid state.now → MayArrive files state.now (repo_add name.now folder.now) arrived.now → IfOk result (λ change. IsNew state.now change.state) }
+    ensures ok { (given : Given) → Valid state.now → MayArrive given state.now (repo_add name.now folder.now) arrived.now → IfOk result (λ change. StepWith None state.now (repo_add name.now folder.now) arrived.now (changed state.now change)) }
+    ensures fault { (given : Given) → Valid state.now → MayArrive given state.now (repo_add name.now folder.now) arrived.now → IfErr result (FaultIs (λ refusal. StepWith None state.now (repo_add name.now folder.now) arrived.now (refused state.now refusal))) }
+    ensures new { (given : Given) → Valid state.now → MayArrive given state.now (repo_add name.now folder.now) arrived.now → IfOk result (λ change. IsNew state.now change.state) }
 {
     arrivals_fit();
     let (name, _) = add_early(alloc, state, name, folder)?;

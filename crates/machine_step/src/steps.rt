@@ -1,10 +1,9 @@
 //! One step.
 ghost use Rattle.std.specs.Prelude.{◌≤◌, ◌≡◌, IfOk, IfErr, IsSome, None, Option};
-ghost use Rattle.ap_host.specs.Disk.{Files};
 ghost use Rattle.command_words.specs.Plain.{plain, package_search as searched, package_show as shown};
 ghost use Rattle.machine_state.specs.State.{Valid};
 ghost use Rattle.machine_state.specs.declared.arrived.Arrived.{Arrived as ArrivedOf};
-ghost use Rattle.machine_step.specs.Step.{MayArrive, StepWith, refused};
+ghost use Rattle.machine_step.specs.Step.{Given, MayArrive, StepWith, refused};
 ghost use Rattle.machine_step.specs.Answers.{seen, changed, FaultIs, IsNew, Told};
 
 use crate::outcome::Outcome;
@@ -59,9 +58,9 @@ fn change_of<M: Patterns>(
     arrived: &Arrived,
     patterns: &mut M,
 ) -> Result<Change, ChangeFault>
-    ensures ok { (files : Option Files) → Valid state.now → MayArrive files state.now (plain command.now) arrived.now → IfOk result (λ change. Told (M.refusals patterns.old) (M.refusals patterns.new) (M.refused patterns.new) (λ large. StepWith large state.now (plain command.now) arrived.now (changed state.now change))) }
-    ensures fault { (files : Option Files) → Valid state.now → MayArrive files state.now (plain command.now) arrived.now → IfErr result (FaultIs (λ refusal. Told (M.refusals patterns.old) (M.refusals patterns.new) (M.refused patterns.new) (λ large. StepWith large state.now (plain command.now) arrived.now (refused state.now refusal)))) }
-    ensures new { (files : Option Files) → Valid state.now → MayArrive files state.now (plain command.now) arrived.now → IfOk result (λ change. IsNew state.now change.state) }
+    ensures ok { (given : Given) → Valid state.now → MayArrive given state.now (plain command.now) arrived.now → IfOk result (λ change. Told (M.refusals patterns.old) (M.refusals patterns.new) (M.refused patterns.new) (λ large. StepWith large state.now (plain command.now) arrived.now (changed state.now change))) }
+    ensures fault { (given : Given) → Valid state.now → MayArrive given state.now (plain command.now) arrived.now → IfErr result (FaultIs (λ refusal. Told (M.refusals patterns.old) (M.refusals patterns.new) (M.refused patterns.new) (λ large. StepWith large state.now (plain command.now) arrived.now (refused state.now refusal)))) }
+    ensures new { (given : Given) → Valid state.now → MayArrive given state.now (plain command.now) arrived.now → IfOk result (λ change. IsNew state.now change.state) }
     ensures never_falls { M.refusals patterns.old ≤ M.refusals patterns.new }
 {
     match command {
@@ -94,9 +93,9 @@ pub fn step<M: Patterns>(
     _now: i64,
     patterns: &mut M,
 ) -> Result<Outcome, AllocError>
-    ensures step { (files : Option Files) → Valid state.now → MayArrive files state.now (plain command.now) arrived → IfOk result (λ outcome. Told (M.refusals patterns.old) (M.refusals patterns.new) (M.refused patterns.new) (λ large. StepWith large state.now (plain command.now) arrived (seen state.now outcome))) }
+    ensures step { (given : Given) → Valid state.now → MayArrive given state.now (plain command.now) arrived → IfOk result (λ outcome. Told (M.refusals patterns.old) (M.refusals patterns.new) (M.refused patterns.new) (λ large. StepWith large state.now (plain command.now) arrived (seen state.now outcome))) }
     // A state is new only where it is another one.
-    ensures changed { (files : Option Files) → Valid state.now → MayArrive files state.now (plain command.now) arrived → IfOk result (λ outcome. IsNew state.now outcome.state) }
+    ensures changed { (given : Given) → Valid state.now → MayArrive given state.now (plain command.now) arrived → IfOk result (λ outcome. IsNew state.now outcome.state) }
     // A refused command leaves the state as it was.
     ensures kept { IfOk result (λ outcome. IsSome outcome.refusal → outcome.state ≡ None) }
     ensures never_falls { M.refusals patterns.old ≤ M.refusals patterns.new }

@@ -5,7 +5,7 @@ use Rattle.ap_host.specs.Disk.{Log, Images, extended, live_of, said}
 use Rattle.ap_host.proofs.ListLemmas.{cut}
 use Rattle.ap_host.proofs.DiskLemmas.{extended-append, extended-none, Throughout-append}
 use Rattle.ap_host.proofs.ChangeLemmas.{AllOrPart, IsPart, part_cases}
-use Rattle.run_model.specs.Run.{Machine, Between, Grows}
+use Rattle.run_model.specs.Run.{Store, Between, Grows, Keeps}
 use Rattle.run_model.proofs.Joins.{said-append}
 
 -- what holds on once it holds, over the operations of one call
@@ -39,11 +39,11 @@ pub onward_same : (Q : Log → Type 0) (l : Log) (ops : List Op) → ((before af
 onward_same Q l ops same earlier between after e h =
     (same (earlier ++ between) after e).1 ((same earlier (between ++ after) (sym (append_assoc earlier between after) ∙ e)).0 h)
 
-module _ {K S C R : Type 0} (M : Machine K S C R) (s t : S) (l : Log) (a b : List Op) where
-  pub grows_then : Grows M s t l a → Grows M s t (extended a l) b → Grows M s t l (a ++ b)
+module _ {S : Type 0} (T : Store S) (s t : S) (l : Log) (a b : List Op) where
+  pub grows_then : Grows T s t l a → Grows T s t (extended a l) b → Grows T s t l (a ++ b)
   grows_then p q = record {
     quiet = said-append a b ∙ ap (λ (x : List ℕ). x ++ said b) p.quiet ∙ q.quiet;
-    each = Throughout-append (λ m. Images m (Between M s t)) l a b p.each q.each;
+    each = Throughout-append (λ m. Images m (Between T s t)) l a b p.each q.each;
     onward = λ earlier between after e here. elim (cut (earlier ++ between) after a b e) [
       | inl w ↦ p.onward earlier between w.0 w.1 here
       | inr w ↦ elim (cut earlier between a w.0 w.1) [
@@ -60,4 +60,8 @@ module _ {K S C R : Type 0} (M : Machine K S C R) (s t : S) (l : Log) (a b : Lis
   }
     where
       Q : Log → Type 0
-      Q m = M.Open (live_of m) t
+      Q m = T.Open (live_of m) t
+
+-- what leads from a state to itself keeps it
+pub keeps_of : {S : Type 0} (T : Store S) (s : S) (l : Log) (ops : List Op) → Grows T s s l ops → Keeps T s l ops
+keeps_of T s l ops g = record { quiet = g.quiet; each = λ before after e f image. elim (g.each before after e f image).0 [ inl x ↦ x | inr x ↦ x ] }

@@ -8,6 +8,7 @@ use Rattle.ap_host.proofs.ListLemmas.{cut, cut_at}
 use Rattle.ap_host.proofs.DiskLemmas.{extended-append, extended-none}
 use Rattle.ap_host.proofs.LegalLemmas.{law_of_live_image}
 use Rattle.run_model.specs.Run.{Outcome, Machine, state_at, joined, after_reply, acked, EndsAs, EndsSaying, IsFront, Ran, Runs, Moments, Settles, Stands, StandsAt, Each, Between, AtRest, Lawful}
+use Rattle.run_model.proofs.Indexes.{turned, turned_rises, turned_at}
 
 -- the log, and then these operations
 abbrev pub extend : Log → List Op → Log
@@ -47,6 +48,15 @@ after_reply_front (x ∷ xs) (y ∷ ys) rest e =
       | inl w ↦ inl (let p : ys ≡ xs = w in cc)
       | inr w ↦ inr (rw (head, eq-eqb y y refl) w)
     ]
+
+-- what holds whether the command was refused or not
+pub either_way : {R A : Type 0} (x : Option R) → MatchOption x A (λ _. A) → A
+either_way None h = h
+either_way (Some r) h = h
+
+pub both_ways : {R A : Type 0} (x : Option R) → A → MatchOption x A (λ _. A)
+both_ways None h = h
+both_ways (Some r) h = h
 
 none_refused : {R : Type 0} (A B : Type 0) (x : Option R) → MatchOption x A (λ q. B × (None ≡ Some q)) → x ≡ None
 none_refused A B None e = refl
@@ -89,26 +99,26 @@ module _ {K S C R : Type 0} (M : Machine K S C R) (lawful : Lawful M) (k : K) wh
     join_runs : Runs M k s (c ∷ cs) (o ∷ os)
     join_runs = (step, subst (λ x. MatchOption x (Runs M k o.state cs os) (λ _. os ≡ [])) (sym done) runs)
 
-    join_moments : Moments M l s (o ∷ []) first → Moments M (extend l first) o.state os ops → Moments M l s (o ∷ os) (first ++ ops)
+    join_moments : Moments M.store l s (o ∷ []) first → Moments M.store (extend l first) o.state os ops → Moments M.store l s (o ∷ os) (first ++ ops)
     join_moments one rest before after e = elim (cut before after first ops e) [
       | inl w ↦
           let whole : o.reply ≡ said before ++ said w.0 = sym told ∙ ap said (sym w.1) ∙ said-append before w.0 in
           let here = one before w.0 w.1 in
           elim (acked_front o os (acked_none o.state cs os runs) (said before) (said w.0) whole) [
-            | inl k ↦ subst (λ n. Images (extend l before) (Between M (state_at s (o ∷ os) n) (state_at s (o ∷ os) (suc n)))) (sym k.0)
-                (subst (λ n. Images (extend l before) (Between M (state_at s (o ∷ []) n) (state_at s (o ∷ []) (suc n)))) k.1 here)
-            | inr k ↦ subst (λ n. Images (extend l before) (Between M (state_at s (o ∷ os) n) (state_at s (o ∷ os) (suc n)))) (sym k.0)
-                (λ f image. let b = subst (λ n. Images (extend l before) (Between M (state_at s (o ∷ []) n) (state_at s (o ∷ []) (suc n)))) k.1 here f image in
-                (elim b.0 [ inl x ↦ inl x | inr x ↦ inl x ], lawful.serves f o.state (state_at o.state os 1) b.1))
+            | inl k ↦ subst (λ n. Images (extend l before) (Between M.store (state_at s (o ∷ os) n) (state_at s (o ∷ os) (suc n)))) (sym k.0)
+                (subst (λ n. Images (extend l before) (Between M.store (state_at s (o ∷ []) n) (state_at s (o ∷ []) (suc n)))) k.1 here)
+            | inr k ↦ subst (λ n. Images (extend l before) (Between M.store (state_at s (o ∷ os) n) (state_at s (o ∷ os) (suc n)))) (sym k.0)
+                (λ f image. let b = subst (λ n. Images (extend l before) (Between M.store (state_at s (o ∷ []) n) (state_at s (o ∷ []) (suc n)))) k.1 here f image in
+                (elim b.0 [ inl x ↦ inl x | inr x ↦ inl x ], lawful.store.serves f o.state (state_at o.state os 1) b.1))
           ]
       | inr w ↦
           let k : acked (o ∷ os) (said before) ≡ suc (acked os (said w.0)) = ap (acked (o ∷ os)) (ap said w.1 ∙ said-append first w.0 ∙ ap (λ t. t ++ said w.0) told) ∙ acked_whole o os (said w.0) in
           let same : extend (extend l first) w.0 ≡ extend l before = extend-extend l first w.0 ∙ ap (extend l) (sym w.1) in
-          subst (λ n. Images (extend l before) (Between M (state_at s (o ∷ os) n) (state_at s (o ∷ os) (suc n)))) (sym k)
-          (subst (λ x. Images x (Between M (state_at o.state os (acked os (said w.0))) (state_at o.state os (suc (acked os (said w.0)))))) same (rest w.0 after w.2))
+          subst (λ n. Images (extend l before) (Between M.store (state_at s (o ∷ os) n) (state_at s (o ∷ os) (suc n)))) (sym k)
+          (subst (λ x. Images x (Between M.store (state_at o.state os (acked os (said w.0))) (state_at o.state os (suc (acked os (said w.0)))))) same (rest w.0 after w.2))
     ]
 
-    join_settles : Settles M l s (o ∷ []) first → Settles M (extend l first) o.state os ops → Settles M l s (o ∷ os) (first ++ ops)
+    join_settles : Settles M.store l s (o ∷ []) first → Settles M.store (extend l first) o.state os ops → Settles M.store l s (o ∷ os) (first ++ ops)
     join_settles one rest before op after e rises = elim (cut_at before op after first ops e) [
       | inl w ↦
           let grown : List Op = before ++ op ∷ [] in
@@ -118,8 +128,8 @@ module _ {K S C R : Type 0} (M : Machine K S C R) (lawful : Lawful M) (k : K) wh
           elim (acked_front o os (acked_none o.state cs os runs) (said grown) (said w.0) whole) [
             | inl k ↦ absurd (omega (arith, k.0, rises))
             | inr k ↦ elim (acked_front o os (acked_none o.state cs os runs) (said before) (said (op ∷ w.0)) whole2) [
-              | inl j ↦ subst (λ n. Images (extend l grown) (λ f. M.Settled f (state_at s (o ∷ os) n))) (sym k.0)
-                  (subst (λ n. Images (extend l grown) (λ f. M.Settled f (state_at s (o ∷ []) n))) k.1 (one before op w.0 w.1 (omega (arith, k.1, j.1))))
+              | inl j ↦ subst (λ n. Images (extend l grown) (λ f. M.store.Settled f (state_at s (o ∷ os) n))) (sym k.0)
+                  (subst (λ n. Images (extend l grown) (λ f. M.store.Settled f (state_at s (o ∷ []) n))) k.1 (one before op w.0 w.1 (omega (arith, k.1, j.1))))
               | inr j ↦ absurd (omega (arith, k.0, j.0, rises))
             ]
           ]
@@ -129,12 +139,12 @@ module _ {K S C R : Type 0} (M : Machine K S C R) (lawful : Lawful M) (k : K) wh
           let k0 : acked (o ∷ os) (said before) ≡ suc (acked os (said w.0)) = ap (acked (o ∷ os)) (ap said w.1 ∙ said-append first w.0 ∙ ap (λ t. t ++ said w.0) told) ∙ acked_whole o os (said w.0) in
           let k : acked (o ∷ os) (said (before ++ op ∷ [])) ≡ suc (acked os (said grown)) = ap (acked (o ∷ os)) (ap said at_grown ∙ said-append first grown ∙ ap (λ t. t ++ said grown) told) ∙ acked_whole o os (said grown) in
           let same : extend (extend l first) grown ≡ extend l (before ++ op ∷ []) = extend-extend l first grown ∙ ap (extend l) (sym at_grown) in
-          subst (λ n. Images (extend l (before ++ op ∷ [])) (λ f. M.Settled f (state_at s (o ∷ os) n))) (sym k)
-          (subst (λ x. Images x (λ f. M.Settled f (state_at o.state os (acked os (said grown))))) same (rest w.0 op after w.2 (omega (arith, k, k0, rises))))
+          subst (λ n. Images (extend l (before ++ op ∷ [])) (λ f. M.store.Settled f (state_at s (o ∷ os) n))) (sym k)
+          (subst (λ x. Images x (λ f. M.store.Settled f (state_at o.state os (acked os (said grown))))) same (rest w.0 op after w.2 (omega (arith, k, k0, rises))))
     ]
 
     -- what readers see, within the first command
-    stands_first : (before after : List Op) → before ++ after ≡ first → (n : ℕ) → StandsAt M l s (o ∷ []) before n → StandsAt M l s (o ∷ os) before (min n 1)
+    stands_first : (before after : List Op) → before ++ after ≡ first → (n : ℕ) → StandsAt M.store l s (o ∷ []) before n → StandsAt M.store l s (o ∷ os) before (min n 1)
     stands_first before after e n st =
         let whole : o.reply ≡ said before ++ said after = sym told ∙ ap said (sym e) ∙ said-append before after in
         record {
@@ -149,43 +159,40 @@ module _ {K S C R : Type 0} (M : Machine K S C R) (lawful : Lawful M) (k : K) wh
           stood = at n st.stood;
         }
       where
-        at : (n : ℕ) → M.Open (live_of (extend l before)) (state_at s (o ∷ []) n) → M.Open (live_of (extend l before)) (state_at s (o ∷ os) (min n 1))
+        at : (n : ℕ) → M.store.Open (live_of (extend l before)) (state_at s (o ∷ []) n) → M.store.Open (live_of (extend l before)) (state_at s (o ∷ os) (min n 1))
         at zero h = h
         at (suc zero) h = h
-        at (suc (suc n)) h = let one : min (suc (suc n)) 1 ≡ 1 = omega arith in subst (λ (m : ℕ). M.Open (live_of (extend l before)) (state_at s (o ∷ os) m)) (sym one) h
+        at (suc (suc n)) h = let one : min (suc (suc n)) 1 ≡ 1 = omega arith in subst (λ (m : ℕ). M.store.Open (live_of (extend l before)) (state_at s (o ∷ os) m)) (sym one) h
 
     -- and behind it
-    stands_rest : (before d : List Op) → before ≡ first ++ d → (n : ℕ) → StandsAt M (extend l first) o.state os d n → StandsAt M l s (o ∷ os) before (suc n)
+    stands_rest : (before d : List Op) → before ≡ first ++ d → (n : ℕ) → StandsAt M.store (extend l first) o.state os d n → StandsAt M.store l s (o ∷ os) before (suc n)
     stands_rest before d e n st =
         let z : acked (o ∷ os) (said before) ≡ suc (acked os (said d)) = ap (acked (o ∷ os)) (ap said e ∙ said-append first d ∙ ap (λ t. t ++ said d) told) ∙ acked_whole o os (said d) in
         let same : extend (extend l first) d ≡ extend l before = extend-extend l first d ∙ ap (extend l) (sym e) in
         record {
           least = omega (arith, z, st.least);
           most = omega (arith, z, st.most);
-          stood = subst (λ (x : Log). M.Open (live_of x) (state_at o.state os n)) same st.stood;
+          stood = subst (λ (x : Log). M.store.Open (live_of x) (state_at o.state os n)) same st.stood;
         }
 
-    join_stands : Stands M l s (o ∷ []) first → Stands M (extend l first) o.state os ops → Stands M l s (o ∷ os) (first ++ ops)
-    join_stands one rest earlier between after e = elim (cut (earlier ++ between) after first ops e) [
-      | inl w ↦
-          let p = one earlier between w.0 w.1 in
-          let part : earlier ++ (between ++ w.0) ≡ first = sym (append_assoc earlier between w.0) ∙ w.1 in
-          (min p.0 1, min p.1 1, omega (arith, p.2), stands_first earlier (between ++ w.0) part p.0 p.3, stands_first (earlier ++ between) w.0 w.1 p.1 p.4)
-      | inr w ↦ elim (cut earlier between first w.0 w.1) [
-        | inl v ↦
-            let p = one earlier v.0 [] (append-nil (earlier ++ v.0) ∙ v.1) in
-            let q = rest w.0 [] after (ap (λ (t : List Op). t ++ after) (append-nil w.0) ∙ w.2) in
-            (min p.0 1, suc q.0, omega arith, stands_first earlier v.0 v.1 p.0 p.3, stands_rest (earlier ++ between) w.0 w.1 q.0 q.3)
-        | inr v ↦
-            let q = rest v.0 between after (ap (λ (t : List Op). t ++ after) v.2 ∙ w.2) in
-            let there : earlier ++ between ≡ first ++ (v.0 ++ between) = w.1 ∙ ap (λ (t : List Op). first ++ t) (sym v.2) in
-            (suc q.0, suc q.1, omega (arith, q.2), stands_rest earlier v.0 v.1 q.0 q.3, stands_rest (earlier ++ between) (v.0 ++ between) there q.1 q.4)
-      ]
-    ]
+    join_stands : Stands M.store l s (o ∷ []) first → Stands M.store (extend l first) o.state os ops → Stands M.store l s (o ∷ os) (first ++ ops)
+    join_stands one rest = record {
+      index = turned (length first) early late;
+      rises = turned_rises (length first) early late (λ i j le. omega (arith, one.rises i j le)) (λ i j le. omega (arith, rest.rises i j le)) (λ i j lt. omega arith);
+      at = turned_at (StandsAt M.store l s (o ∷ os)) first ops early late
+          (λ before d e. stands_first before d e (one.index (length before)) (one.at before d e))
+          (λ before d after e behind. stands_rest before d e (rest.index (length d)) (rest.at d after behind));
+    }
+      where
+        early : ℕ → ℕ
+        early i = min (one.index i) 1
+
+        late : ℕ → ℕ
+        late i = suc (rest.index i)
 
     join_each : Each M l s (c ∷ []) (o ∷ []) first → Each M (extend l first) o.state cs os ops → Each M l s (c ∷ cs) (o ∷ os) (first ++ ops)
     join_each one rest =
-        let here_is : one.0 ≡ first = sym (append-nil one.0) ∙ ap (λ (t : List Op). one.0 ++ t) (sym one.5) ∙ one.2 in (
+        let here_is : one.0 ≡ first = sym (append-nil one.0) ∙ ap (λ (t : List Op). one.0 ++ t) (sym (either_way o.refusal one.5)) ∙ one.2 in (
           first,
           ops,
           refl,
@@ -195,12 +202,12 @@ module _ {K S C R : Type 0} (M : Machine K S C R) (lawful : Lawful M) (k : K) wh
             before_next = inr told;
           },
           subst (M.Moves l s c (Some o)) here_is one.4,
-          rest,
+          subst (λ (x : Option R). MatchOption x (Each M (extend l first) o.state cs os ops) (λ _. ops ≡ [])) (sym done) rest,
         )
 
-    join : Moments M l s (o ∷ []) first → Settles M l s (o ∷ []) first → Stands M l s (o ∷ []) first → Each M l s (c ∷ []) (o ∷ []) first → (end : Option (S × Option R))
-        → IsFront (said ops) (joined os) → Moments M (extend l first) o.state os ops → Settles M (extend l first) o.state os ops → Stands M (extend l first) o.state os ops → Each M (extend l first) o.state cs os ops
-        → IfSome end (λ e. EndsAs cs os e.1 × (said ops ≡ joined os) × (e.0 ≡ state_at o.state os (length os)) × Images (extend (extend l first) ops) (λ f. M.Settled f e.0))
+    join : Moments M.store l s (o ∷ []) first → Settles M.store l s (o ∷ []) first → Stands M.store l s (o ∷ []) first → Each M l s (c ∷ []) (o ∷ []) first → (end : Option (S × Option R))
+        → IsFront (said ops) (joined os) → Moments M.store (extend l first) o.state os ops → Settles M.store (extend l first) o.state os ops → Stands M.store (extend l first) o.state os ops → Each M (extend l first) o.state cs os ops
+        → IfSome end (λ e. EndsAs cs os e.1 × (said ops ≡ joined os) × (e.0 ≡ state_at o.state os (length os)) × Images (extend (extend l first) ops) (λ f. M.store.Settled f e.0))
         → Ran M k l s (c ∷ cs) end (first ++ ops)
     join moments1 settles1 stands1 each1 end says moments2 settles2 stands2 each2 ends = record {
       outcomes = o ∷ os;
@@ -212,14 +219,14 @@ module _ {K S C R : Type 0} (M : Machine K S C R) (lawful : Lawful M) (k : K) wh
       each = join_each each1 each2;
       ends = join_ends end ends;
     } where
-      join_ends : (end : Option (S × Option R)) → IfSome end (λ e. EndsAs cs os e.1 × (said ops ≡ joined os) × (e.0 ≡ state_at o.state os (length os)) × Images (extend (extend l first) ops) (λ f. M.Settled f e.0))
-          → IfSome end (λ e. EndsAs (c ∷ cs) (o ∷ os) e.1 × (said (first ++ ops) ≡ joined (o ∷ os)) × (e.0 ≡ state_at s (o ∷ os) (length (o ∷ os))) × Images (extend l (first ++ ops)) (λ f. M.Settled f e.0))
+      join_ends : (end : Option (S × Option R)) → IfSome end (λ e. EndsAs cs os e.1 × (said ops ≡ joined os) × (e.0 ≡ state_at o.state os (length os)) × Images (extend (extend l first) ops) (λ f. M.store.Settled f e.0))
+          → IfSome end (λ e. EndsAs (c ∷ cs) (o ∷ os) e.1 × (said (first ++ ops) ≡ joined (o ∷ os)) × (e.0 ≡ state_at s (o ∷ os) (length (o ∷ os))) × Images (extend l (first ++ ops)) (λ f. M.store.Settled f e.0))
       join_ends None h = tt
       join_ends (Some e) h = (
         subst (λ x. MatchOption x (EndsAs cs os e.1) (λ refusal. (os ≡ []) × (e.1 ≡ Some refusal))) (sym done) h.0,
         said-append first ops ∙ ap (λ t. t ++ said ops) told ∙ ap (λ t. o.reply ++ t) h.1,
         h.2,
-        subst (λ x. Images x (λ f. M.Settled f e.0)) (extend-extend l first ops) h.3,
+        subst (λ x. Images x (λ f. M.store.Settled f e.0)) (extend-extend l first ops) h.3,
       )
 
   -- the first command was done, and then the others ran
@@ -234,7 +241,7 @@ module _ {K S C R : Type 0} (M : Machine K S C R) (lawful : Lawful M) (k : K) wh
       let step = subst (λ z. Runs M k s (c ∷ []) z) is x.runs in
       let rest = subst (λ t. Ran M k (extend l a) t cs end b) state y in
       join l s c o one.2 step.0 a told cs rest.outcomes rest.runs b
-      (subst (λ z. Moments M l s z a) is x.moments) (subst (λ z. Settles M l s z a) is x.settles) (subst (λ z. Stands M l s z a) is x.stands) (subst (λ z. Each M l s (c ∷ []) z a) is x.each)
+      (subst (λ z. Moments M.store l s z a) is x.moments) (subst (λ z. Settles M.store l s z a) is x.settles) (subst (λ z. Stands M.store l s z a) is x.stands) (subst (λ z. Each M l s (c ∷ []) z a) is x.each)
       end rest.says rest.moments rest.settles rest.stands rest.each rest.ends
 
   runs_more : (s : S) (c : C) (cs : List C) (os : List (Outcome S R)) → Runs M k s (c ∷ []) os → Runs M k s (c ∷ cs) os
@@ -248,8 +255,16 @@ module _ {K S C R : Type 0} (M : Machine K S C R) (lawful : Lawful M) (k : K) wh
 
   each_more : (l : Log) (s : S) (c : C) (cs : List C) (os : List (Outcome S R)) (ops : List Op) → Each M l s (c ∷ []) os ops → Each M l s (c ∷ cs) os ops
   each_more l s c cs [] ops each = each
-  each_more l s c cs (o ∷ []) ops each = (each.0, each.1, each.2, each.3, each.4, each_none (extend l each.0) o.state cs each.1 each.5)
-  each_more l s c cs (o ∷ o2 ∷ os) ops each = absurd each.5
+  each_more l s c cs (o ∷ []) ops each = (each.0, each.1, each.2, each.3, each.4, more o.refusal each.5)
+    where
+      more : (x : Option R) → MatchOption x (each.1 ≡ []) (λ _. each.1 ≡ []) → MatchOption x (Each M (extend l each.0) o.state cs [] each.1) (λ _. each.1 ≡ [])
+      more None h = each_none (extend l each.0) o.state cs each.1 h
+      more (Some r) h = h
+  each_more l s c cs (o ∷ o2 ∷ os) ops each = (each.0, each.1, each.2, each.3, each.4, more o.refusal each.5)
+    where
+      more : (x : Option R) → MatchOption x ⊥ (λ _. each.1 ≡ []) → MatchOption x (Each M (extend l each.0) o.state cs (o2 ∷ os) each.1) (λ _. each.1 ≡ [])
+      more None h = absurd h
+      more (Some r) h = h
 
   -- the first command broke off, so the list does
   pub ran_broke : (l : Log) (s : S) (c : C) (cs : List C) (ops : List Op) → Ran M k l s (c ∷ []) None ops → Ran M k l s (c ∷ cs) None ops
@@ -284,8 +299,8 @@ module _ {K S C R : Type 0} (M : Machine K S C R) (lawful : Lawful M) (k : K) wh
         [ None ↦ λ h. absurd h | Some q ↦ λ h. h ] e
 
   -- at one moment, where nothing is known but the state at rest
-  stands_nothing : (l : Log) (s : S) (before : List Op) → before ≡ [] → M.Open (live_of l) s → StandsAt M l s [] before 0
-  stands_nothing l s before none here = record { least = omega arith; most = omega arith; stood = subst (λ (x : Log). M.Open (live_of x) s) (sym (ap (extend l) none ∙ extend-nil l)) here }
+  stands_nothing : (l : Log) (s : S) (before : List Op) → before ≡ [] → M.store.Open (live_of l) s → StandsAt M.store {R = R} l s [] before 0
+  stands_nothing l s before none here = record { least = omega arith; most = omega arith; stood = subst (λ (x : Log). M.store.Open (live_of x) s) (sym (ap (extend l) none ∙ extend-nil l)) here }
 
   pub nil_front : (before after : List Op) → before ++ after ≡ [] → before ≡ []
   nil_front [] after e = refl
@@ -296,23 +311,24 @@ module _ {K S C R : Type 0} (M : Machine K S C R) (lawful : Lawful M) (k : K) wh
   not_nil (b ∷ bs) op after e = cc
 
   -- nothing was done
-  pub ran_nothing : (l : Log) (s : S) (cs : List C) (end : Option (S × Option R)) → AtRest M s l → IfSome end (λ e. (cs ≡ []) × (e.0 ≡ s) × (e.1 ≡ None)) → Ran M k l s cs end []
+  pub ran_nothing : (l : Log) (s : S) (cs : List C) (end : Option (S × Option R)) → AtRest M.store s l → IfSome end (λ e. (cs ≡ []) × (e.0 ≡ s) × (e.1 ≡ None)) → Ran M k l s cs end []
   ran_nothing l s cs end rest is = record {
     outcomes = [];
     runs = tt;
     says = ([], refl);
-    moments = λ before after e. subst (λ b. Images (extend l b) (Between M s s)) (sym (nil_front before after e)) (λ f image. let here = rest f (subst (λ x. Image x f) (extend-nil l) image) in (inl (lawful.opens f s here), lawful.settled_serves f s here));
+    moments = λ before after e. subst (λ b. Images (extend l b) (Between M.store s s)) (sym (nil_front before after e)) (λ f image. let here = rest f (subst (λ x. Image x f) (extend-nil l) image) in (inl (lawful.store.opens f s here), lawful.store.settled_serves f s here));
     settles = λ before op after e. absurd (not_nil before op after e);
-    stands = λ earlier between after e.
-        let here : M.Open (live_of l) s = lawful.opens (live_of l) s (rest (live_of l) (law_of_live_image l)) in
-        let none : earlier ++ between ≡ [] = nil_front (earlier ++ between) after e in
-        (0, 0, omega arith, stands_nothing l s earlier (nil_front earlier between none) here, stands_nothing l s (earlier ++ between) none here);
+    stands = record {
+      index = λ i. 0;
+      rises = λ i j le. omega arith;
+      at = λ before after e. stands_nothing l s before (nil_front before after e) (lawful.store.opens (live_of l) s (rest (live_of l) (law_of_live_image l)));
+    };
     each = each_none l s cs [] refl;
     ends = ended end is;
   } where
-    ended : (end : Option (S × Option R)) → IfSome end (λ e. (cs ≡ []) × (e.0 ≡ s) × (e.1 ≡ None)) → let none : List (Outcome S R) = [] in IfSome end (λ e. EndsAs cs none e.1 × (said [] ≡ joined none) × (e.0 ≡ state_at s none (length none)) × AtRest M e.0 (extended [] l))
+    ended : (end : Option (S × Option R)) → IfSome end (λ e. (cs ≡ []) × (e.0 ≡ s) × (e.1 ≡ None)) → let none : List (Outcome S R) = [] in IfSome end (λ e. EndsAs cs none e.1 × (said [] ≡ joined none) × (e.0 ≡ state_at s none (length none)) × AtRest M.store e.0 (extended [] l))
     ended None h = tt
-    ended (Some e) h = (subst (λ x. let none : List (Outcome S R) = [] in EndsAs x none e.1) (sym h.0) h.2, refl, h.1, subst (λ (x : Log). AtRest M e.0 x) (sym (extend-nil l)) (subst (λ t. AtRest M t l) (sym h.1) rest))
+    ended (Some e) h = (subst (λ x. let none : List (Outcome S R) = [] in EndsAs x none e.1) (sym h.0) h.2, refl, h.1, subst (λ (x : Log). AtRest M.store e.0 x) (sym (extend-nil l)) (subst (λ t. AtRest M.store t l) (sym h.1) rest))
 
   -- A turn of the loop over a list of commands: so far these operations were done, the state is s, and whatever the commands from
   -- i on do from here, all of them do from the start.
@@ -338,7 +354,7 @@ module _ {K S C R : Type 0} (M : Machine K S C R) (lawful : Lawful M) (k : K) wh
     pub turn_broke : i < length all → GoesOnFrom sofar s (drop i all) → (ops : List Op) → Ran M k (extend start sofar) s (get_or all i d ∷ []) None ops → Ran M k start s0 all None (sofar ++ ops)
     turn_broke below so_far ops ran = here below so_far None ops (ran_broke (extend start sofar) s (get_or all i d) (drop (i + 1) all) ops ran)
 
-    pub turns_over : length all ≤ i → GoesOnFrom sofar s (drop i all) → AtRest M s (extend start sofar) → Ran M k start s0 all (Some (s, None)) sofar
+    pub turns_over : length all ≤ i → GoesOnFrom sofar s (drop i all) → AtRest M.store s (extend start sofar) → Ran M k start s0 all (Some (s, None)) sofar
     turns_over over so_far rest =
         let none : List C = [] in
         subst (λ (x : List Op). Ran M k start s0 all (Some (s, None)) x) (append-nil sofar)

@@ -1,3 +1,4 @@
+pub mod Indexes
 pub mod Joins
 pub mod Says
 pub mod Opens

@@ -10,18 +10,25 @@ pub record Outcome (S R : Type 0) : Type 0 where
   pub refusal : Option R
   pub state : S
 
--- A machine of states S, commands C and refusals R. K is what a call tells it, as the text that was too large in this call.
-pub record Machine (K S C R : Type 0) : Type 1 where
-  -- the states that the machine may be in
-  pub Valid : S → Type 0
-  -- in a call that tells this, the command, in this state, may come to this
-  pub Step : K → S → C → Outcome S R → Type 0
+-- Which files stand for which state S. It knows no command, so what is said of files at each moment is said of it alone.
+pub record Store (S : Type 0) : Type 1 where
   -- the files stand for the state
   pub Open : Files → S → Type 0
   -- the same, with nothing in the course of being done
   pub Settled : Files → S → Type 0
   -- what clients are promised while the one state goes over into the other
   pub Served : Files → S → S → Type 0
+  -- no file is left over from a run that was stopped
+  pub Clean : Files → Type 0
+
+-- A machine of states S, commands C and refusals R. K is what a call tells it, as the text that was too large in this call.
+pub record Machine (K S C R : Type 0) : Type 1 where
+  -- the states that the machine may be in
+  pub Valid : S → Type 0
+  -- in a call that tells this, the command, in this state, may come to this
+  pub Step : K → S → C → Outcome S R → Type 0
+  -- which files stand for which state
+  pub store : Store S
   -- the operation sets what the state is read from
   pub Sets : Op → Type 0
   -- what the operations of one command keep to, from the log at its start on. There is no outcome where it broke off before one
@@ -72,6 +79,65 @@ pub record Tells (reply : List ℕ) (ops rest : List Op) : Type 0 where
   pub whole : said ops ≡ reply → EndsSaying reply ops
   pub before_next : (rest ≡ []) ⊎ (said ops ≡ reply)
 
+-- an index that never falls
+abbrev pub NeverFalls : (ℕ → ℕ) → Type 0
+NeverFalls index = (i j : ℕ) → i ≤ j → index i ≤ index j
+
+module _ {S : Type 0} (T : Store S) where
+  -- the files stand for the one state or the other, and serve clients for one of the two
+  abbrev pub Between : S → S → Files → Type 0
+  Between s t f = (T.Open f s ⊎ T.Open f t) × T.Served f s t
+
+  -- whatever a stop leaves is settled for the state
+  abbrev pub AtRest : S → Log → Type 0
+  AtRest s l = Images l (λ f. T.Settled f s)
+
+  -- and holds nothing that is left over: where the commands of a call begin
+  abbrev pub Ready : S → Log → Type 0
+  Ready s l = Images l (λ f. T.Settled f s × T.Clean f)
+
+  -- The operations lead from the one state to the other without a word. At each moment each image stands for one of the two, and
+  -- once what reads give stands for the second it does so on.
+  pub record Grows (s t : S) (l : Log) (ops : List Op) : Type 0 where
+    pub quiet : said ops ≡ []
+    pub each : Throughout (λ m. Images m (Between s t)) l ops
+    pub onward : (earlier between after : List Op) → (earlier ++ between) ++ after ≡ ops → T.Open (live_of (extended earlier l)) t → T.Open (live_of (extended (earlier ++ between) l)) t
+
+  -- The operations keep the state without a word: at each moment each image stands for it.
+  pub record Keeps (s : S) (l : Log) (ops : List Op) : Type 0 where
+    pub quiet : said ops ≡ []
+    pub each : Throughout (λ m. Images m (λ f. T.Open f s)) l ops
+
+  -- once each image was settled for the state, clients are served for it
+  abbrev pub ServesOn : S → Log → List Op → Type 0
+  ServesOn s l ops = (earlier between after : List Op) → (earlier ++ between) ++ after ≡ ops → AtRest s (extended earlier l) → Images (extended (earlier ++ between) l) (λ f. T.Served f s s)
+
+  module _ {R : Type 0} where
+    -- at each moment: with k replies acknowledged, each image stands for the state after k commands or k + 1
+    abbrev pub Moments : Log → S → List (Outcome S R) → List Op → Type 0
+    Moments l s os ops = (before after : List Op) → before ++ after ≡ ops →
+        let k = acked os (said before) in
+        Images (extended before l) (Between (state_at s os k) (state_at s os (suc k)))
+
+    -- when an operation acknowledges a reply, each image is settled for the state after that command
+    abbrev pub Settles : Log → S → List (Outcome S R) → List Op → Type 0
+    Settles l s os ops = (before : List Op) (op : Op) (after : List Op) → before ++ op ∷ after ≡ ops →
+        let k = acked os (said (before ++ op ∷ [])) in
+        acked os (said before) < k → Images (extended (before ++ op ∷ []) l) (λ f. T.Settled f (state_at s os k))
+
+    -- after these operations what reads give stands for the state after n commands, which are those acknowledged or one more
+    pub record StandsAt (l : Log) (s : S) (os : List (Outcome S R)) (before : List Op) (n : ℕ) : Type 0 where
+      pub least : acked os (said before) ≤ n
+      pub most : n ≤ suc (acked os (said before))
+      pub stood : T.Open (live_of (extended before l)) (state_at s os n)
+
+    -- What readers between operations see: after i operations what reads give stands for the state after index i commands, and
+    -- the index never falls.
+    pub record Stands (l : Log) (s : S) (os : List (Outcome S R)) (ops : List Op) : Type 0 where
+      pub index : ℕ → ℕ
+      pub rises : NeverFalls index
+      pub at : (before after : List Op) → before ++ after ≡ ops → StandsAt l s os before (index (length before))
+
 module _ {K S C R : Type 0} (M : Machine K S C R) where
   -- The first of these commands may come to these outcomes, in turn. Only the last can be a refusal.
   abbrev pub Runs : K → S → List C → List (Outcome S R) → Type 0
@@ -85,50 +151,13 @@ module _ {K S C R : Type 0} (M : Machine K S C R) where
     pub last : Option R
     pub ends : EndsAs cs os last
 
-  -- the files stand for the one state or the other, and serve clients for one of the two
-  abbrev pub Between : S → S → Files → Type 0
-  Between s t f = (M.Open f s ⊎ M.Open f t) × M.Served f s t
-
-  -- whatever a stop leaves is settled for the state
-  abbrev pub AtRest : S → Log → Type 0
-  AtRest s l = Images l (λ f. M.Settled f s)
-
-  -- The operations lead from the one state to the other without a word. At each moment each image stands for one of the two, and
-  -- once what reads give stands for the second it does so on.
-  pub record Grows (s t : S) (l : Log) (ops : List Op) : Type 0 where
-    pub quiet : said ops ≡ []
-    pub each : Throughout (λ m. Images m (Between s t)) l ops
-    pub onward : (earlier between after : List Op) → (earlier ++ between) ++ after ≡ ops → M.Open (live_of (extended earlier l)) t → M.Open (live_of (extended (earlier ++ between) l)) t
-
-  -- at each moment: with k replies acknowledged, each image stands for the state after k commands or k + 1
-  abbrev pub Moments : Log → S → List (Outcome S R) → List Op → Type 0
-  Moments l s os ops = (before after : List Op) → before ++ after ≡ ops →
-      let k = acked os (said before) in
-      Images (extended before l) (Between (state_at s os k) (state_at s os (suc k)))
-
-  -- when an operation acknowledges a reply, each image is settled for the state after that command
-  abbrev pub Settles : Log → S → List (Outcome S R) → List Op → Type 0
-  Settles l s os ops = (before : List Op) (op : Op) (after : List Op) → before ++ op ∷ after ≡ ops →
-      let k = acked os (said (before ++ op ∷ [])) in
-      acked os (said before) < k → Images (extended (before ++ op ∷ []) l) (λ f. M.Settled f (state_at s os k))
-
-  -- after these operations what reads give stands for the state after n commands, which are those acknowledged or one more
-  pub record StandsAt (l : Log) (s : S) (os : List (Outcome S R)) (before : List Op) (n : ℕ) : Type 0 where
-    pub least : acked os (said before) ≤ n
-    pub most : n ≤ suc (acked os (said before))
-    pub stood : M.Open (live_of (extended before l)) (state_at s os n)
-
-  -- what readers between operations see: at any two moments the later state is no earlier one
-  abbrev pub Stands : Log → S → List (Outcome S R) → List Op → Type 0
-  Stands l s os ops = (earlier between after : List Op) → (earlier ++ between) ++ after ≡ ops →
-      (i j : ℕ) × (i ≤ j) × StandsAt l s os earlier i × StandsAt l s os (earlier ++ between) j
-
-  -- the operations are cut into those of each command, and those of a command that broke off
+  -- The operations are cut into those of each command, and those of a command that broke off. Behind a refused command there are
+  -- none.
   abbrev pub Each : Log → S → List C → List (Outcome S R) → List Op → Type 0
   Each l s [] [] ops = ops ≡ []
   Each l s (c ∷ cs) [] ops = (ops ≡ []) ⊎ M.Moves l s c None ops
   Each l s [] (o ∷ os) ops = ⊥
-  Each l s (c ∷ cs) (o ∷ os) ops = (here rest : List Op) × (here ++ rest ≡ ops) × Tells o.reply here rest × M.Moves l s c (Some o) here × Each (extended here l) o.state cs os rest
+  Each l s (c ∷ cs) (o ∷ os) ops = (here rest : List Op) × (here ++ rest ≡ ops) × Tells o.reply here rest × M.Moves l s c (Some o) here × MatchOption o.refusal (Each (extended here l) o.state cs os rest) (λ _. rest ≡ [])
 
   -- The log l, at rest for s, went on by a run of some of these commands. Where the end is told, they are all done, or end with
   -- this refusal, and the log is at rest for this state.
@@ -136,14 +165,23 @@ module _ {K S C R : Type 0} (M : Machine K S C R) where
     pub outcomes : List (Outcome S R)
     pub runs : Runs k s cs outcomes
     pub says : IsFront (said ops) (joined outcomes)
-    pub moments : Moments l s outcomes ops
-    pub settles : Settles l s outcomes ops
-    pub stands : Stands l s outcomes ops
+    pub moments : Moments M.store l s outcomes ops
+    pub settles : Settles M.store l s outcomes ops
+    pub stands : Stands M.store l s outcomes ops
     pub each : Each l s cs outcomes ops
-    pub ends : IfSome end (λ e. EndsAs cs outcomes e.1 × (said ops ≡ joined outcomes) × (e.0 ≡ state_at s outcomes (length outcomes)) × AtRest e.0 (extended ops l))
+    pub ends : IfSome end (λ e. EndsAs cs outcomes e.1 × (said ops ≡ joined outcomes) × (e.0 ≡ state_at s outcomes (length outcomes)) × AtRest M.store e.0 (extended ops l))
+
+-- what any store owes
+pub record LawfulStore {S : Type 0} (T : Store S) : Type 0 where
+  -- what is settled is open, and serves
+  pub opens : (f : Files) (s : S) → T.Settled f s → T.Open f s
+  pub settled_serves : (f : Files) (s : S) → T.Settled f s → T.Served f s s
+  -- who is served by the state itself is served on the way to any next one
+  pub serves : (f : Files) (s t : S) → T.Served f s s → T.Served f s t
 
 -- what any machine owes
 pub record Lawful {K S C R : Type 0} (M : Machine K S C R) : Type 0 where
+  pub store : LawfulStore M.store
   -- each reply has a byte
   pub replies : (k : K) (s : S) (c : C) (o : Outcome S R) → M.Step k s c o → o.reply ≡ [] → ⊥
   -- what a call tells matters to refusals alone
@@ -153,9 +191,4 @@ pub record Lawful {K S C R : Type 0} (M : Machine K S C R) : Type 0 where
   -- from a valid state each command comes to something, whatever a call tells
   pub total : (k : K) (s : S) (c : C) → M.Valid s → (o : Outcome S R) × M.Step k s c o
   -- files stand for valid states alone
-  pub valid : (f : Files) (s : S) → M.Open f s → M.Valid s
-  -- what is settled is open, and serves
-  pub opens : (f : Files) (s : S) → M.Settled f s → M.Open f s
-  pub settled_serves : (f : Files) (s : S) → M.Settled f s → M.Served f s s
-  -- who is served by the state itself is served on the way to any next one
-  pub serves : (f : Files) (s t : S) → M.Served f s s → M.Served f s t
+  pub valid : (f : Files) (s : S) → M.store.Open f s → M.Valid s

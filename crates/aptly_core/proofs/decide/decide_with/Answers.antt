@@ -1,35 +1,37 @@
 use Rattle.std.proofs.lemmas.Result.{err_from_is_err_and}
 use Rattle.ap_host.proofs.ChangeLemmas.{GoesOn-map}
 use Rattle.command_words.specs.Plain.{plain}
+use Rattle.machine_step.specs.Step.{giving}
 use Rattle.aptly_core.proofs.DecideLemmas.{decides_so, decides_broke, may_arrive}
 use Rattle.aptly_core.proofs.decide.decide_with.Goals as goal
 
 pub returns-in_err-arrived-clause-log : goal.returns-in_err-arrived-clause-log
 returns-in_err-arrived-clause-log g c =
     let e = err_from_is_err_and c.from_residual.result c.from_residual.ensures.1 in
-    GoesOn-map _ _ _ _ c.arrive.ensures.log (λ l a w. decides_broke _ _ _ _ _ _ _ e.0 e.1 l a w)
+    GoesOn-map _ _ _ _ c.arrive.ensures.log (λ l a w. decides_broke c.args.reading _ _ (plain c.args.command.now) _ _ _ _ e.0 e.1 l a w)
 
 pub returns-in_err-step-clause-log : goal.returns-in_err-step-clause-log
 returns-in_err-step-clause-log g c =
     let e = err_from_is_err_and c.from_residual-in_err-step.result c.from_residual-in_err-step.ensures.1 in
-    GoesOn-map _ _ _ _ c.arrive.ensures.log (λ l a w. decides_broke _ _ _ _ _ _ _ e.0 e.1 l a w)
+    GoesOn-map _ _ _ _ c.arrive.ensures.log (λ l a w. decides_broke c.args.reading _ _ (plain c.args.command.now) _ _ _ _ e.0 e.1 l a w)
 
 pub returns-clause-comes : goal.returns-clause-comes
 returns-clause-comes g c valid is =
-    let input = g.I.Inbox.map c.args.inbox.now in
-    let may = may_arrive input c.args.state.now (plain c.args.command.now) c.args.reading c.in_ok-arrived.arrived is (c.in_ok-arrived.ensures.arrived valid) in
-    let w = c.in_ok-step.ensures.step input valid may in
+    let given = giving (g.I.Inbox.map c.args.inbox.now) c.args.now.now in
+    let may = may_arrive given c.args.state.now (plain c.args.command.now) c.args.reading c.in_ok-arrived.arrived is (c.in_ok-arrived.ensures.arrived valid) in
+    let w = c.in_ok-step.ensures.step given valid may in
     (w.0, w.1, (c.in_ok-arrived.arrived, may, w.2))
 
 pub returns-clause-changed : goal.returns-clause-changed
 returns-clause-changed g c valid is =
-    let input = g.I.Inbox.map c.args.inbox.now in
-    c.in_ok-step.ensures.changed input valid (may_arrive input c.args.state.now (plain c.args.command.now) c.args.reading c.in_ok-arrived.arrived is (c.in_ok-arrived.ensures.arrived valid))
+    let given = giving (g.I.Inbox.map c.args.inbox.now) c.args.now.now in
+    c.in_ok-step.ensures.changed given valid (may_arrive given c.args.state.now (plain c.args.command.now) c.args.reading c.in_ok-arrived.arrived is (c.in_ok-arrived.ensures.arrived valid))
 
 pub returns-clause-log : goal.returns-clause-log
 returns-clause-log g c =
     let input = g.I.Inbox.map c.args.inbox.now in
     let s = c.args.state.now in
     let cmd = plain c.args.command.now in
-    GoesOn-map _ _ _ _ c.in_ok-arrived.ensures.log (λ l a w. decides_so _ input s cmd _ _ c.in_ok-arrived.arrived c.in_ok-step.field-0
-    (λ is valid. let y = c.in_ok-step.ensures.step input valid (may_arrive input s cmd c.args.reading c.in_ok-arrived.arrived is (c.in_ok-arrived.ensures.arrived valid)) in (y.0, y.2)) l a w)
+    let given = giving input c.args.now.now in
+    GoesOn-map _ _ _ _ c.in_ok-arrived.ensures.log (λ l a w. decides_so c.args.reading input s cmd _ _ c.in_ok-arrived.arrived c.in_ok-step.field-0
+    (λ is valid. let y = c.in_ok-step.ensures.step given valid (may_arrive given s cmd c.args.reading c.in_ok-arrived.arrived is (c.in_ok-arrived.ensures.arrived valid)) in (y.0, y.2)) l a w)

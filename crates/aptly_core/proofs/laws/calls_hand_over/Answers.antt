@@ -4,4 +4,4 @@ use Rattle.aptly_core.proofs.Lawful.{lawful}
 use Rattle.aptly_core.proofs.laws.calls_hand_over.Goals as goal
 
 pub returns : goal.returns
-returns c = λ input. hand_over_law (machine input) (lawful input)
+returns c = λ given. hand_over_law (machine given) (lawful given)

@@ -1,17 +1,33 @@
-use Rattle.std.proofs.Common.{map, refl, sym, subst, ◌∙◌, ap, Some}
+use Rattle.std.proofs.Common.{ℤ, to_z-of_z, map, refl, sym, subst, ◌∙◌, ap, Some}
+use Rattle.ap_host.specs.Changes.{GoesOn}
 use Rattle.ap_host.proofs.ChangeLemmas.{GoesOn-map, GoesOn-none}
 use Rattle.command_words.specs.Plain.{plain}
 use Rattle.command_words.specs.Fault.{IsAt}
 use Rattle.command_words.specs.Commands.{IsUsagePlace}
-use Rattle.aptly_core.proofs.CallLemmas.{called_with, told_with, unread_with}
+use Rattle.machine_step.specs.Answers.{IsTold}
+use Rattle.machine_step.specs.Step.{giving}
+use Rattle.aptly_core.specs.Calls.{Called}
+use Rattle.aptly_core.specs.Runs.{EndsFrom}
+use Rattle.aptly_core.proofs.CallLemmas.{called_with, told_with, unread_with, usage_no_end}
 use Rattle.aptly_core.proofs.run.aptly.Goals as goal
 
 pub returns-in-Ok-clause-log : goal.returns-in-Ok-clause-log
 returns-in-Ok-clause-log g c =
-    GoesOn-map _ _ _ _ c.run_commands.ensures.log (λ l a w. called_with _ _ c.args.words.now _ (c.in-Ok.ensures.read ∙ ap (λ xs. Some (map plain xs)) (sym c.deref.ensures.value)) _ _ c.run_commands.result c.run_commands.ensures.host_fault c.run_commands.ensures.inbox_fault l a w)
+    let log = subst (λ (n : ℤ). GoesOn (g.H.Host.log c.args.host.now) (g.H.Host.log c.run_now.new.host) (Called (giving (g.I.Inbox.map c.args.inbox.now) n) (IsTold (g.M.Patterns.refusals c.args.patterns.now) (g.M.Patterns.refusals c.run_now.new.patterns) (g.M.Patterns.refused c.run_now.new.patterns)) (map plain c.deref.result.now) c.run_now.result)) (to_z-of_z c.ranges.now) c.run_now.ensures.log in
+    GoesOn-map _ _ _ _ log (λ l a w. called_with _ _ c.args.words.now _ (c.in-Ok.ensures.read ∙ ap (λ xs. Some (map plain xs)) (sym c.deref.ensures.value)) _ _ c.run_now.result c.run_now.ensures.host_fault c.run_now.ensures.inbox_fault l a w)
 
 pub returns-in-Err-OutOfMemory-clause-log : goal.returns-in-Err-OutOfMemory-clause-log
-returns-in-Err-OutOfMemory-clause-log g c = GoesOn-none _ _ _ refl (λ l. unread_with _ _ tt c.args.words.now _ _ l)
+returns-in-Err-OutOfMemory-clause-log g c = GoesOn-none _ _ _ refl (λ l. unread_with (giving (g.I.Inbox.map c.args.inbox.now) c.args.now) _ tt c.args.words.now _ _ l)
 
 pub returns-in-Err-At-clause-log : goal.returns-in-Err-At-clause-log
-returns-in-Err-At-clause-log g c = GoesOn-map _ _ _ _ c.tell_usage.ensures.log (λ l a w. told_with _ _ c.args.words.now c.in-Err-At.place (subst (IsAt (IsUsagePlace c.args.words.now)) c.in-Err-At.field-0-is c.in-Err-At.ensures.fault) _ _ c.tell_usage.result l a w)
+returns-in-Err-At-clause-log g c = GoesOn-map _ _ _ _ c.tell_usage.ensures.log (λ l a w. told_with (giving (g.I.Inbox.map c.args.inbox.now) c.args.now) _ c.args.words.now c.in-Err-At.place (subst (IsAt (IsUsagePlace c.args.words.now)) c.in-Err-At.field-0-is c.in-Err-At.ensures.fault) _ _ c.tell_usage.result l a w)
+
+pub returns-in-Ok-clause-ended : goal.returns-in-Ok-clause-ended
+returns-in-Ok-clause-ended g c end = (
+  map plain c.deref.result.now,
+  c.in-Ok.ensures.read ∙ ap (λ xs. Some (map plain xs)) (sym c.deref.ensures.value),
+  subst (λ (n : ℤ). EndsFrom (giving (g.I.Inbox.map c.args.inbox.now) n) (IsTold (g.M.Patterns.refusals c.args.patterns.now) (g.M.Patterns.refusals c.run_now.new.patterns) (g.M.Patterns.refused c.run_now.new.patterns)) (map plain c.deref.result.now) c.run_now.result) (to_z-of_z c.ranges.now) (c.run_now.ensures.ended end),
+)
+
+pub returns-in-Err-At-clause-ended : goal.returns-in-Err-At-clause-ended
+returns-in-Err-At-clause-ended g c end = absurd (usage_no_end c.tell_usage.result c.tell_usage.ensures.only end)

@@ -1,8 +1,7 @@
 use Rattle.std.proofs.Common.{Bool, Ok, subst}
 use Rattle.ap_host.proofs.ChangeLemmas.{GoesOn-map, GoesOn-then}
-use Rattle.aptly_core.specs.declared.status.Status.TheVariants.{HostFault, OutOfMemory}
 use Rattle.aptly_core.specs.Opens.{Enters}
-use Rattle.aptly_core.proofs.CallLemmas.{called_claimed, called_busy, called_fault}
+use Rattle.aptly_core.proofs.CallLemmas.{called_claimed, called_busy, called_fault, fault_no_end}
 use Rattle.aptly_core.proofs.run.run_commands.Goals as goal
 
 pub returns-in-Ok-true-clause-log : goal.returns-in-Ok-true-clause-log
@@ -12,8 +11,8 @@ returns-in-Ok-true-clause-log g c =
 pub returns-in-Ok-false-clause-log : goal.returns-in-Ok-false-clause-log
 returns-in-Ok-false-clause-log g c = GoesOn-map _ _ _ _ c.in-Ok-false.ensures.log (λ l a w. called_busy _ _ tt _ l a (subst (λ (x : Bool). Enters (Ok x) a) c.in-Ok-false.field-0-test w))
 
-pub returns-in-Err-Failed-clause-log : goal.returns-in-Err-Failed-clause-log
-returns-in-Err-Failed-clause-log g c = GoesOn-map _ _ _ _ c.in-Err-Failed.ensures.log (λ l a w. called_fault _ _ tt _ HostFault l tt a w)
+pub returns-in-Err-clause-log : goal.returns-in-Err-clause-log
+returns-in-Err-clause-log g c = GoesOn-map _ _ _ _ c.in-Err.ensures.log (λ l a w. called_fault _ _ tt _ c.status_of_host.result l c.status_of_host.ensures.fault a w)
 
-pub returns-in-Err-OutOfMemory-clause-log : goal.returns-in-Err-OutOfMemory-clause-log
-returns-in-Err-OutOfMemory-clause-log g c = GoesOn-map _ _ _ _ c.in-Err-OutOfMemory.ensures.log (λ l a w. called_fault _ _ tt _ OutOfMemory l tt a w)
+pub returns-in-Err-clause-ended : goal.returns-in-Err-clause-ended
+returns-in-Err-clause-ended g c end = absurd (fault_no_end c.status_of_host.result c.status_of_host.ensures.fault end)

@@ -1,9 +1,15 @@
 use Rattle.std.proofs.lemmas.Result.{err_from_is_err_and}
-use Rattle.ap_host.specs.Disk.{extended}
+use Rattle.std.proofs.Common.{◌++◌}
+use Rattle.ap_host.specs.Disk.{extended, live_of, Durable}
 use Rattle.ap_host.proofs.ChangeLemmas.{EachOp-append, GoesOn-map, GoesOn-then}
+use Rattle.run_model.specs.Run.{Keeps}
+use Rattle.run_model.proofs.Growing.{keeps_of}
+use Rattle.machine_state.specs.Values.{StateView}
+use Rattle.aptly_core.specs.Machine.{store}
+use Rattle.aptly_core.specs.Store.{Open}
 use Rattle.aptly_core.specs.Opens.{IsSettling}
 use Rattle.aptly_core.proofs.CommitLemmas.{barriers_each}
-use Rattle.aptly_core.proofs.SettleLemmas.{clears_each, clear_phase, settle_phase, settle_rest, settle_durable, settle_cleared, settling_live, settles_err}
+use Rattle.aptly_core.proofs.SettleLemmas.{clears_each, clear_phase, settle_phase, settle_ready, settle_durable, keeps_serve, settling_live, settles_err}
 use Rattle.aptly_core.proofs.run.settle.Goals as goal
 
 pub returns-in_err-clear-clause-log : goal.returns-in_err-clear-clause-log
@@ -18,11 +24,12 @@ returns-clause-log g c =
     let old = c.args.stage.now in
     GoesOn-then _ _ _ _ _ _ c.in_ok-clear.ensures.log c.barrier.ensures.log (λ l a b w barriers.
     let only = EachOp-append IsSettling a b (clears_each IsSettling (λ p is. is) a w.only) (barriers_each IsSettling st r (extended a l) b tt barriers) in
+    let kept : (s : StateView) → Durable l → Open (live_of l) s → Keeps store s l (a ++ b) = λ s durable stands. keeps_of store s l (a ++ b) (settle_phase s l durable stands a b w.only st r barriers) in
     record {
       only = only;
-      grows = λ s durable stands. settle_phase s l durable stands a b w.only st r barriers;
-      rests = λ s durable stands. settle_rest s l durable stands a b w.only st r barriers old w.marked;
+      keeps = λ s durable stands. kept s durable stands;
+      serves = λ s durable stands. keeps_serve s l (a ++ b) (kept s durable stands);
+      ready = λ s durable stands. settle_ready s l durable stands a b w.only st r barriers old w.marked w.cleared;
       durable = settle_durable l a b old st w.marked r barriers;
-      cleared = settle_cleared l a b old st w.marked r barriers w.cleared;
       same = λ q not. settling_live q not _ l only;
     })

@@ -1,5 +1,12 @@
+use Rattle.std.proofs.lemmas.Result.{err_from_is_err_and}
 use Rattle.ap_host.proofs.ChangeLemmas.{GoesOn-map}
+use Rattle.aptly_core.proofs.SettleLemmas.{settles_other}
 use Rattle.aptly_core.proofs.run.settled.Goals as goal
 
 pub returns-clause-log : goal.returns-clause-log
-returns-clause-log g c = GoesOn-map _ _ _ _ c.in_ok-settle.ensures.log (λ l a w. record { only = w.only; grows = w.grows; rests = w.rests; durable = w.durable; cleared = w.cleared; same = w.same })
+returns-clause-log g c = GoesOn-map _ _ _ _ c.in_ok-settle.ensures.log (λ l a w. record { only = w.only; keeps = w.keeps; serves = w.serves; ready = w.ready; durable = w.durable; same = w.same })
+
+pub returns-in_err-settle-clause-log : goal.returns-in_err-settle-clause-log
+returns-in_err-settle-clause-log g c =
+    let e = err_from_is_err_and c.from_residual.result c.from_residual.ensures.1 in
+    GoesOn-map _ _ _ _ c.in_err-settle.ensures.log (λ l a w. settles_other _ c.from_residual.result e.0 e.1 l a w)

@@ -5,7 +5,7 @@ pub returns-clause-valid : goal.returns-clause-valid
 returns-clause-valid c = valid_step c.arrivals_fit.ensures.fits
 
 pub returns-clause-total : goal.returns-clause-total
-returns-clause-total c = λ files large state command v. total_step c.arrivals_fit.ensures.total files large state command
+returns-clause-total c = λ given large state command v. total_step c.arrivals_fit.ensures.total given large state command
 
 pub returns-clause-kept : goal.returns-clause-kept
 returns-clause-kept c = kept_step

@@ -12,25 +12,25 @@ use Rattle.machine_step.proofs.LawLemmas.{list_fits, arrived_for}
 use Rattle.machine_step.proofs.repos.add.Goals as goal
 
 pub returns-in_err-name-clause-fault : goal.returns-in_err-name-clause-fault
-returns-in_err-name-clause-fault c = λ files v m.
+returns-in_err-name-clause-fault c = λ given v m.
     let fault = c.in_err-name.field-0.0 in
     at_exit c.from_residual.result fault _ c.from_residual.ensures.1 (fault_first _ c.args.state.now (repo_add c.args.name.now c.args.folder.now) c.args.arrived.now fault (c.in_err-name.ensures.fault v))
 
 pub returns-in-Nothing-clause-fault : goal.returns-in-Nothing-clause-fault
-returns-in-Nothing-clause-fault c = λ files v m.
+returns-in-Nothing-clause-fault c = λ given v m.
     added_step c.args.state.now c.args.name.now c.args.folder.now c.args.arrived.now _ (c.in_ok-name.ensures.good v) (sym (ap (taken_in c.args.state.now c.args.name.now) c.in-Nothing.is))
 
 pub returns-in-Refused-clause-fault : goal.returns-in-Refused-clause-fault
-returns-in-Refused-clause-fault c = λ files v m.
+returns-in-Refused-clause-fault c = λ given v m.
     added_step c.args.state.now c.args.name.now c.args.folder.now c.args.arrived.now _ (c.in_ok-name.ensures.good v)
     (ap (refused c.args.state.now) c.in_ok-copy-in-Refused.ensures ∙ sym (ap (taken_in c.args.state.now c.args.name.now) c.in-Refused.is))
 
 pub returns-clause-ok : goal.returns-clause-ok
-returns-clause-ok c = λ files v m.
+returns-clause-ok c = λ given v m.
     let name = c.args.name.now in
     let good = c.in_ok-name.ensures.good v in
-    let arrives = arrived_for files c.args.state.now name c.args.folder.now (arrivals.List c.in-List.list c.in-List.date) good (subst (λ (a : Arrived). MayArrive files c.args.state.now (repo_add name c.args.folder.now) a) c.in-List.is m) in
-    let fits = list_fits c.arrivals_fit.ensures.fits files c.args.state.now name c.args.folder.now c.in-List.list c.in-List.date v arrives in
+    let arrives = arrived_for given c.args.state.now name c.args.folder.now (arrivals.List c.in-List.list c.in-List.date) good (subst (λ (a : Arrived). MayArrive given c.args.state.now (repo_add name c.args.folder.now) a) c.in-List.is m) in
+    let fits = list_fits c.arrivals_fit.ensures.fits given.inbox c.args.state.now name c.args.folder.now c.in-List.list c.in-List.date v arrives in
     let same = c.in_ok-name.ensures.name in
     IfOk-weaker c.take_in.result _ _
     (λ change e. added_step c.args.state.now name c.args.folder.now c.args.arrived.now _ good
@@ -40,11 +40,11 @@ returns-clause-ok c = λ files v m.
     (subst (λ (n : List ℕ). IsTrue (is_some (repo_of n c.args.state.now.repos))) (sym same) (there_is c.args.state.now name c.args.folder.now good)))
 
 pub returns-clause-fault : goal.returns-clause-fault
-returns-clause-fault c = λ files v m.
+returns-clause-fault c = λ given v m.
     let name = c.args.name.now in
     let good = c.in_ok-name.ensures.good v in
-    let arrives = arrived_for files c.args.state.now name c.args.folder.now (arrivals.List c.in-List.list c.in-List.date) good (subst (λ (a : Arrived). MayArrive files c.args.state.now (repo_add name c.args.folder.now) a) c.in-List.is m) in
-    let fits = list_fits c.arrivals_fit.ensures.fits files c.args.state.now name c.args.folder.now c.in-List.list c.in-List.date v arrives in
+    let arrives = arrived_for given c.args.state.now name c.args.folder.now (arrivals.List c.in-List.list c.in-List.date) good (subst (λ (a : Arrived). MayArrive given c.args.state.now (repo_add name c.args.folder.now) a) c.in-List.is m) in
+    let fits = list_fits c.arrivals_fit.ensures.fits given.inbox c.args.state.now name c.args.folder.now c.in-List.list c.in-List.date v arrives in
     let same = c.in_ok-name.ensures.name in
     err_map c.take_in.result _ _ (λ fault h. fault_memory _ fault h)
     (c.take_in.ensures.fits v
@@ -52,7 +52,7 @@ returns-clause-fault c = λ files v m.
     (subst (λ (n : List ℕ). IsTrue (is_some (repo_of n c.args.state.now.repos))) (sym same) (there_is c.args.state.now name c.args.folder.now good)))
 
 pub returns-clause-new : goal.returns-clause-new
-returns-clause-new c = λ files v m.
+returns-clause-new c = λ given v m.
     let name = c.args.name.now in
     let same = c.in_ok-name.ensures.name in
     c.take_in.ensures.new v (subst (λ (n : List ℕ). IsTrue (is_some (repo_of n c.args.state.now.repos))) (sym same) (there_is c.args.state.now name c.args.folder.now (c.in_ok-name.ensures.good v)))
