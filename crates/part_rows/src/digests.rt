@@ -70,7 +70,8 @@ fn read(desk: &Desk, out: &mut String, rest: &str) -> Result<(), Stop> {
     }
 }
 
-fn what_text(what: What) -> &'static str {
+/// The name of what differs.
+pub fn what_text(what: What) -> &'static str {
     match what {
         What::Size => "size",
         What::Sha256 => "sha256",

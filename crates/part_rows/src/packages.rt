@@ -55,17 +55,8 @@ fn put_package(out: &mut String, package: &Package, path: &SafePath) -> Result<(
     let triple = package.triple(*out.allocator())?;
     let (source, version) = package.source();
     put(out, &[triple.as_str(), " at ", path.as_str()])?;
-    put(
-        out,
-        &[
-            ", file ",
-            package.file.as_str(),
-            ", source ",
-            source,
-            " ",
-            version,
-        ],
-    )
+    put(out, &[", file ", package.file.as_str()])?;
+    put(out, &[", source ", source, " ", version])
 }
 
 fn read(desk: &Desk, out: &mut String, rest: &str) -> Result<(), Stop> {
@@ -97,11 +88,8 @@ fn hold(desk: &mut Desk, out: &mut String, rest: &str) -> Result<(), Stop> {
 fn beside(desk: &Desk, out: &mut String, rest: &str) -> Result<(), Stop> {
     let own = package_of(desk, "~")?;
     let other = package_of(desk, rest)?.copy(desk.alloc)?;
-    put_order(
-        out,
-        has_same_triple(&own, &other),
-        compare_packages(&own, &other),
-    )
+    let same = has_same_triple(&own, &other);
+    put_order(out, same, compare_packages(&own, &other))
 }
 
 /// A body, and a text: the package's text once it is completed by what is found of the body.

@@ -2,12 +2,13 @@
 ghost use Rattle.std.specs.Prelude.{None};
 
 use crate::desk::Desk;
+use crate::digests::what_text;
 use crate::given::number_of;
 use crate::put::{put, put_at, yes_or_no};
 use crate::stop::Stop;
 use ap_host::{Bytes, Inbox, InboxErr, MemHost};
 use ap_text::SafePath;
-use digest_set::{Said, What, digests_of};
+use digest_set::{Digests, Said, digests_of};
 use hash_pool::{PoolFault, get, has, length, pool_path, take};
 use stage_file::Stage;
 use std::alloc::AllocError;
@@ -69,6 +70,24 @@ impl Inbox for Hollow {
     }
 }
 
+/// What was said of a file and found otherwise.
+fn put_fault(out: &mut String, fault: &PoolFault) -> Result<(), AllocError> {
+    match fault {
+        PoolFault::Mismatch(what, said, found) => {
+            put(out, &[what_text(*what), " "])?;
+            put(out, &[said.as_str(), " ", found.as_str()])
+        }
+        _ => Ok(()),
+    }
+}
+
+fn put_taken(out: &mut String, taken: &Result<Digests, PoolFault>) -> Result<(), AllocError> {
+    match taken {
+        Ok(_) => Ok(()),
+        Err(fault) => put_fault(out, fault),
+    }
+}
+
 /// A file that has the stated length and gives no byte, taken into an empty store.
 fn take_hollow(desk: &Desk, out: &mut String, rest: &str) -> Result<(), Stop> {
     let size = number_of(rest)?;
@@ -88,8 +107,6 @@ fn take_hollow(desk: &Desk, out: &mut String, rest: &str) -> Result<(), Stop> {
         md5: None,
     };
     let taken = take(desk.alloc, &mut host, &mut stage, &mut inbox, &path, &said);
-    if let Err(PoolFault::Mismatch(What::Size, said, found)) = &taken {
-        put(out, &["size ", said.as_str(), " ", found.as_str()])?;
-    }
+    put_taken(out, &taken)?;
     Ok(put_at(out, ", operations ", host.log().len() as u64)?)
 }

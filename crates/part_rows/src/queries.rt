@@ -67,17 +67,10 @@ fn put_tree(out: &mut String, query: &Query) -> Result<(), AllocError> {
             name,
             version,
             arch,
-        } => put(
-            out,
-            &[
-                "reference ",
-                name.as_str(),
-                " ",
-                version.as_str(),
-                " ",
-                arch.as_str(),
-            ],
-        ),
+        } => {
+            put(out, &["reference ", name.as_str(), " "])?;
+            put(out, &[version.as_str(), " ", arch.as_str()])
+        }
         Query::Wanted {
             name,
             relation,
