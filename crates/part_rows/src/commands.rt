@@ -45,7 +45,7 @@ fn put_settings(
     put_flag(out, " component=", component)
 }
 
-/// A command that some whole call makes today, or another one that has a worked row.
+/// A command that some whole call makes today, or another one that has an example.
 pub fn put_command(out: &mut String, command: &Command) -> Result<(), AllocError> {
     match command {
         Command::RepoCreate {

@@ -49,8 +49,8 @@ fn pieces(desk: &Desk, out: &mut String, rest: &str) -> Result<(), Stop> {
     Ok(put_digests(out, &hashing.finish())?)
 }
 
-fn put_found<const N: usize>(out: &mut String, text: &str) -> Result<(), Stop> {
-    match digest_of_hex::<N>(text) {
+fn put_found<const N: usize>(out: &mut String, found: Option<[u8; N]>) -> Result<(), Stop> {
+    match found {
         Some(digest) => put_hexadecimal(out, &digest)?,
         None => out.push_str("none")?,
     }
@@ -62,10 +62,10 @@ fn read(desk: &Desk, out: &mut String, rest: &str) -> Result<(), Stop> {
     let (size, digits) = first_word(rest)?;
     let digits = desk.word(digits)?;
     match size {
-        "1" => put_found::<1>(out, digits.as_str()),
-        "16" => put_found::<16>(out, digits.as_str()),
-        "20" => put_found::<20>(out, digits.as_str()),
-        "32" => put_found::<32>(out, digits.as_str()),
+        "1" => put_found(out, digest_of_hex::<1>(digits.as_str())),
+        "16" => put_found(out, digest_of_hex::<16>(digits.as_str())),
+        "20" => put_found(out, digest_of_hex::<20>(digits.as_str())),
+        "32" => put_found(out, digest_of_hex::<32>(digits.as_str())),
         _ => Err(Stop::NoCall),
     }
 }
