@@ -1,8 +1,8 @@
 //! Commands as they were read.
 
-use crate::put::put;
 use command_words::{Command, Origin};
 use control_stanza::Text;
+use row_table::put;
 use std::alloc::AllocError;
 
 /// A verb, and its arguments.

@@ -1,10 +1,7 @@
 //! Calls of digest_set.
 
-use crate::desk::Desk;
-use crate::given::{first_word, number_of};
-use crate::put::{put, put_at};
-use crate::stop::Stop;
 use digest_set::{Digests, Digits, Hashing, Said, What, digest_of_hex, digests_of, mismatch};
+use row_table::{Desk, Stop, first_word, number_of, put, put_at};
 use std::alloc::AllocError;
 
 pub fn play(desk: &Desk, out: &mut String, call: &str, rest: &str) -> Result<(), Stop> {

@@ -1,11 +1,9 @@
 //! Calls of index_text.
 
-use crate::desk::Desk;
-use crate::put::{put, put_at};
-use crate::stop::Stop;
 use ap_text::SafePath;
 use index_text::{IndexFault, read_packages};
 use package_core::Package;
+use row_table::{Desk, Stop, put, put_at};
 use std::alloc::AllocError;
 
 fn put_packages(out: &mut String, found: &[(Package, SafePath)]) -> Result<(), AllocError> {

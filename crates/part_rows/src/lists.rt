@@ -1,12 +1,9 @@
 //! Calls of package_list.
 
-use crate::desk::Desk;
-use crate::given::{first_word, number_of};
 use crate::packages::package_of;
-use crate::put::{put, put_at, yes_or_no};
-use crate::stop::Stop;
 use package_core::Package;
 use package_list::{ListFault, PackageList};
+use row_table::{Desk, Stop, first_word, number_of, put, put_at, yes_or_no};
 use std::alloc::{AllocError, Global};
 
 pub fn play(desk: &mut Desk, out: &mut String, call: &str, rest: &str) -> Result<(), Stop> {

@@ -2,34 +2,28 @@
 #![tactic(auto)]
 
 mod commands;
-mod desk;
 mod digests;
-mod given;
 mod indexes;
 mod lists;
 mod names;
 mod packages;
 mod pools;
-mod put;
 mod queries;
 mod refusals;
 mod relations;
 mod roots;
 mod stanzas;
-mod stop;
 mod truths;
 mod versions;
 mod words;
 
-use desk::Desk;
-use put::put_at;
+use row_table::{Desk, Stop, answered, extend_base, first_word};
 use std::alloc::AllocError;
 use std::io;
-use stop::Stop;
 
 /// Puts the answer of a line that is a call: a topic, a call of it, and its arguments.
 fn play(desk: &mut Desk, out: &mut String, line: &str) -> Result<(), Stop> {
-    let (topic, rest) = given::first_word(line)?;
+    let (topic, rest) = first_word(line)?;
     let (call, rest) = rest.split_once(' ').unwrap_or((rest, ""));
     match topic {
         "name" => names::play_name(desk, out, call, rest),
@@ -54,27 +48,8 @@ fn play(desk: &mut Desk, out: &mut String, line: &str) -> Result<(), Stop> {
 /// The answer to a line that is outside a block, in whole lines.
 fn answer(desk: &mut Desk, number: u64, line: &str) -> Result<String, AllocError> {
     let mut out = String::new(desk.alloc);
-    match play(desk, &mut out, line) {
-        Ok(()) => {}
-        Err(Stop::NoCall) => {
-            out.clear();
-            put_at(&mut out, "? ", number)?;
-        }
-        Err(Stop::OutOfMemory(error)) => return Err(error),
-    }
-    if !out.is_empty() && !out.as_str().ends_with('\n') {
-        out.push('\n')?;
-    }
-    Ok(out)
-}
-
-/// A line of the block: whether the block goes on.
-fn extend_base(desk: &mut Desk, line: &str) -> Result<bool, AllocError> {
-    if line == "." {
-        return Ok(false);
-    }
-    put::put(&mut desk.base, &[line, "\n"])?;
-    Ok(true)
+    let played = play(desk, &mut out, line);
+    answered(out, number, played)
 }
 
 fn main(rt: HostRuntime) -> io::Result<()> {

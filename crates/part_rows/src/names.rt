@@ -1,13 +1,10 @@
 //! Calls of ap_text, and of the texts of control_stanza.
 
-use crate::desk::Desk;
-use crate::given::{first_word, number_of};
-use crate::put::{put, put_at, put_bytes, put_order, yes_or_no};
-use crate::stop::Stop;
 use ap_text::{
     Name, SafePath, TextFault, is_name, is_package_name, is_safe_path, read_decimal, write_decimal,
 };
 use control_stanza::Text;
+use row_table::{Desk, Stop, first_word, number_of, put, put_at, put_bytes, put_order, yes_or_no};
 use std::alloc::AllocError;
 
 pub fn play_name(desk: &Desk, out: &mut String, call: &str, rest: &str) -> Result<(), Stop> {

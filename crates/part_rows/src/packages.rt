@@ -1,16 +1,13 @@
 //! Calls of package_core.
 
-use crate::desk::Desk;
 use crate::digests::put_difference;
-use crate::given::first_word;
-use crate::put::{put, put_order, yes_or_no};
 use crate::stanzas::last_stanza;
-use crate::stop::Stop;
 use ap_text::SafePath;
 use digest_set::digests_of;
 use package_core::{
     CompleteFault, Package, PackageFault, Required, compare_packages, has_same_triple,
 };
+use row_table::{Desk, Stop, first_word, put, put_order, yes_or_no};
 use std::alloc::AllocError;
 
 pub fn play(desk: &mut Desk, out: &mut String, call: &str, rest: &str) -> Result<(), Stop> {

@@ -1,15 +1,12 @@
 //! Calls of hash_pool over a store in memory.
 ghost use Rattle.std.specs.Prelude.{None};
 
-use crate::desk::Desk;
 use crate::digests::what_text;
-use crate::given::number_of;
-use crate::put::{put, put_at, yes_or_no};
-use crate::stop::Stop;
 use ap_host::{Bytes, Inbox, InboxErr, MemHost};
 use ap_text::SafePath;
 use digest_set::{Digests, Said, digests_of};
 use hash_pool::{PoolFault, get, has, length, pool_path, take};
+use row_table::{Desk, Stop, number_of, put, put_at, yes_or_no};
 use stage_file::Stage;
 use std::alloc::AllocError;
 

@@ -1,10 +1,8 @@
 //! Calls of query_grammar.
 
-use crate::desk::Desk;
-use crate::put::{put, put_at, put_bytes};
 use crate::relations::put_relation;
-use crate::stop::Stop;
 use query_grammar::{Query, QueryFault, QueryKind, Test, read_filter, read_query, write_query};
+use row_table::{Desk, Stop, put, put_at, put_bytes};
 use std::alloc::AllocError;
 
 pub fn play(desk: &Desk, out: &mut String, call: &str, rest: &str) -> Result<(), Stop> {

@@ -1,11 +1,9 @@
 //! The lines of refusals, most of which no whole call has today.
 
-use crate::desk::Desk;
-use crate::given::first_word;
-use crate::stop::Stop;
 use control_stanza::Text;
 use machine_state::{Kind, Limit, Refusal};
 use reply_text::refusal_line;
+use row_table::{Desk, Stop, first_word};
 
 pub fn play(desk: &Desk, out: &mut String, call: &str, rest: &str) -> Result<(), Stop> {
     let refusal = match call {

@@ -1,11 +1,9 @@
 //! Calls of depends_field.
 
-use crate::desk::Desk;
-use crate::put::{put, put_at};
-use crate::stop::Stop;
 use crate::versions::relation_text;
 use deb_version::{Relation, Version};
 use depends_field::{Alternative, DependsFault, Group, read_depends, read_provides};
+use row_table::{Desk, Stop, put, put_at};
 use std::alloc::AllocError;
 
 pub fn play(desk: &Desk, out: &mut String, call: &str, rest: &str) -> Result<(), Stop> {

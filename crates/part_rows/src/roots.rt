@@ -1,10 +1,8 @@
 //! Calls of catalogue_text.
 
-use crate::desk::Desk;
-use crate::put::{put, put_at};
-use crate::stop::Stop;
 use catalogue_text::{RootFault, read_root, root_text};
 use machine_state::{Repo, State};
+use row_table::{Desk, Stop, put, put_at};
 use std::alloc::AllocError;
 
 fn put_repos(out: &mut String, repos: &[Repo]) -> Result<(), AllocError> {

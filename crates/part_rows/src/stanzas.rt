@@ -1,10 +1,7 @@
 //! Calls of control_stanza.
 
-use crate::desk::Desk;
-use crate::given::first_word;
-use crate::put::{put, put_at, put_bytes};
-use crate::stop::Stop;
 use control_stanza::{Stanza, StanzaFault, StanzaKind, read_stanzas, read_stored, write_stanza};
+use row_table::{Desk, Stop, first_word, put, put_at, put_bytes};
 use std::alloc::AllocError;
 
 pub fn play(desk: &Desk, out: &mut String, call: &str, rest: &str) -> Result<(), Stop> {

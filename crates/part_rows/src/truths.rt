@@ -1,13 +1,10 @@
 //! Calls of query_eval and package_relations.
 
-use crate::desk::Desk;
-use crate::given::{first_word, number_of};
-use crate::put::{put_at, yes_or_no};
-use crate::stop::Stop;
 use depends_field::{Alternative, read_depends};
 use package_relations::satisfies;
 use query_eval::{EvalFault, MemPatterns, Prepared, RegexPatterns, glob_matches};
 use query_grammar::{Query, read_query};
+use row_table::{Desk, Stop, first_word, number_of, put_at, yes_or_no};
 use std::alloc::AllocError;
 
 pub fn play(desk: &Desk, out: &mut String, call: &str, rest: &str) -> Result<(), Stop> {

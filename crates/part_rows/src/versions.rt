@@ -1,10 +1,7 @@
 //! Calls of deb_version.
 
-use crate::desk::Desk;
-use crate::given::first_word;
-use crate::put::{put, put_at, put_order, sign_of};
-use crate::stop::Stop;
 use deb_version::{Relation, Version, VersionFault, compare, meets};
+use row_table::{Desk, Stop, first_word, put, put_at, put_order, sign_of};
 use std::alloc::AllocError;
 
 pub fn play(desk: &Desk, out: &mut String, call: &str, rest: &str) -> Result<(), Stop> {

@@ -1,10 +1,8 @@
 //! Calls of command_words.
 
 use crate::commands::put_command;
-use crate::desk::Desk;
-use crate::put::{put, put_at};
-use crate::stop::Stop;
 use command_words::{Command, WordFault, Words, read_words};
+use row_table::{Desk, Stop, put, put_at};
 use std::alloc::AllocError;
 
 /// The words between the blanks; none where there is nothing at all.
