@@ -4,7 +4,7 @@ use Rattle.std.specs.Bool.{if◌then◌else◌}
 use Rattle.std.specs.Option.{is_some}
 use Rattle.std.proofs.lemmas.Bool.{leb-true}
 use Rattle.ap_host.specs.declared.host.Op.{Op}
-use Rattle.ap_host.specs.Disk.{Files, Log, extended, live_of}
+use Rattle.ap_host.specs.Disk.{Path, Files, Log, extended, live_of}
 use Rattle.ap_host.proofs.DiskLemmas.{extended-none}
 use Rattle.command_words.specs.Plain.{PlainCommand, repo_create, repo_add, repo_show, package_search, package_show}
 use Rattle.stage_file.specs.Stage.{StageState, IsInStep}
@@ -84,8 +84,8 @@ met_before inbox l ops fills bytes (inl w) = elim (fills w.0 w.1) [
   | inr new ↦ inr (new.0, new.2 ∙ sym new.4 ∙ w.2)
 ]
 
-pub arrives_added : (input : Option Files) (s : StateView) (reading : Reading) → (reading ≡ readings.Nothing → ⊥) → (before now : StageState) (given : Result Arrived UpdateFault) (r : Result Arrived RunFault) → r ≡ arrived_of given → (l : Log) (ops : List Op) → Adds input s.known given before now l ops → Arrives input s reading before now r l ops
-arrives_added input s reading reads before now given r is l ops w = subst (λ v. Arrives input s reading before now v l ops) (sym is) (record {
+pub arrives_added : (input : Option Files) (folder : Path) (s : StateView) (reading : Reading) → (reading ≡ readings.Nothing → ⊥) → (before now : StageState) (given : Result Arrived UpdateFault) (r : Result Arrived RunFault) → r ≡ arrived_of given → (l : Log) (ops : List Op) → Adds input folder s.known given before now l ops → Arrives input s reading before now r l ops
+arrives_added input folder s reading reads before now given r is l ops w = subst (λ v. Arrives input s reading before now v l ops) (sym is) (record {
   grows = w.grows;
   nothing = λ is. absurd (reads is);
   step = w.step;

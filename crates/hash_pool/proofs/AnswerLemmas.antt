@@ -98,3 +98,7 @@ facts_of said bytes (Ok d) a b is =
     let own : bytes ≡ a.0 = cc in
     a.2 ∙ ap (λ (x : List ℕ). digests_of x) (sym (is ∙ own))
 facts_of said bytes (Err e) a b is = tt
+
+-- bytes whose facts are answered don't differ from what is said
+pub no_difference : (said : Said) (bytes : List ℕ) (d : Digests) → IsAnswer (Some bytes) said (Ok d) → difference said (digests_of bytes) ≡ None
+no_difference said bytes d a = (same_of said bytes d a bytes refl).1

@@ -6,13 +6,13 @@ use Rattle.sha2.specs.Sha256.{sha256}
 use Rattle.ap_host.specs.declared.host.Op.{Op}
 use Rattle.ap_host.specs.declared.host.Op.TheVariants.{Create, Append, Sync, Rename, Remove, Barrier, Say, Claim}
 use Rattle.ap_host.specs.Disk.{Path, Content, Log, disk_of, live_of, extended}
-use Rattle.ap_host.specs.Changes.{GoesOn}
-use Rattle.ap_host.proofs.DiskLemmas.{one, two, same_path, extended-none, Added-none}
-use Rattle.ap_host.proofs.ChangeLemmas.{EachOp-map}
-use Rattle.stage_file.specs.Stage.{StageState, IsInStep}
+use Rattle.ap_host.specs.Changes.{GoesOn, SameExcept}
+use Rattle.ap_host.proofs.DiskLemmas.{one, two, same_path, extended-none, Added-none, Throughout-none}
+use Rattle.ap_host.proofs.ChangeLemmas.{EachOp-map, SameExcept-refl}
+use Rattle.stage_file.specs.Stage.{StageState, is_staged, IsInStep}
 use Rattle.hash_pool.specs.Names.{is_pooled, pool_name}
 use Rattle.hash_pool.specs.Growth.{IsTaking, IsOnce, IsBody, HasGrown, Onward}
-use Rattle.hash_pool.specs.Lodging.{SetsOne, IsSetting, Sets, IsHeld, Lodges}
+use Rattle.hash_pool.specs.Lodging.{SetsOne, IsSetting, Sets, OnlyStages, IsHeld, Lodges}
 use Rattle.hash_pool.proofs.NameLemmas.{name_pooled, name_not_staged}
 use Rattle.hash_pool.proofs.OnwardLemmas.{Onward-start, Onward-first}
 use Rattle.hash_pool.proofs.GrowthLemmas.{none_some, grows_none}
@@ -24,6 +24,12 @@ GoesOn-still old new P Q same told f = record { added = []; log = same ∙ Added
 still_step : (s : StageState) (l : Log) → IsInStep s l → IsInStep s (extended [] l)
 still_step s l step = subst (λ (k : Log). IsInStep s k) (sym (extended-none l)) step
 
+stages_none : (l : Log) → OnlyStages l []
+stages_none l = (refl, Throughout-none (SameExcept Staged l) l (SameExcept-refl Staged l))
+  where
+    Staged : Path → Type 0
+    Staged p = IsTrue (is_staged p)
+
 module _ (G : List ℕ → Type 0) (digest : List ℕ) where
   -- nothing was done
   pub lodges_err : {T E : Type 0} (s : StageState) (r : Result T E) (e : E) (l : Log) → r ≡ Err e → Lodges G digest s s r l []
@@ -31,7 +37,7 @@ module _ (G : List ℕ → Type 0) (digest : List ℕ) where
     grows = grows_none l;
     kept = λ some. refl;
     target = inl refl;
-    whole = inl refl;
+    whole = inl (stages_none l);
     held = subst (λ v. OnOk v (IsHeld G digest l (extended [] l))) (sym is) tt;
     stage = inl (refl, refl);
     marked = inr (refl, refl);
@@ -48,7 +54,7 @@ module _ (G : List ℕ → Type 0) (digest : List ℕ) where
     grows = grows_none l;
     kept = λ any. refl;
     target = inl refl;
-    whole = inl refl;
+    whole = inl (stages_none l);
     held = (bytes, given, is, ap (λ (k : Log). live_of k (pool_name digest)) (extended-none l) ∙ there bytes (live_of l (pool_name digest)) some);
     stage = inl (refl, refl);
     marked = inr (refl, refl);
@@ -76,7 +82,7 @@ module _ (G : List ℕ → Type 0) (digest : List ℕ) where
     grows = h.grows;
     kept = h.kept;
     target = h.target;
-    whole = elim h.whole [ inl none ↦ inl none | inr w ↦ inr (w.0, f w.0 w.1, w.2, w.3) ];
+    whole = elim h.whole [ inl only ↦ inl only | inr w ↦ inr (w.0, f w.0 w.1, w.2, w.3) ];
     held = held_as r h.held;
     stage = h.stage;
     marked = h.marked;

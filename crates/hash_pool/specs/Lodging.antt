@@ -5,7 +5,7 @@ use Rattle.sha2.specs.Sha256.{sha256}
 use Rattle.ap_host.specs.declared.host.Op.{Op}
 use Rattle.ap_host.specs.declared.host.Op.TheVariants.{Create, Append, Sync, Rename, Remove, Barrier, Say, Claim}
 use Rattle.ap_host.specs.Disk.{Path, Content, Log, disk_of, live_of, extended, Throughout}
-use Rattle.ap_host.specs.Changes.{EachOp}
+use Rattle.ap_host.specs.Changes.{EachOp, SameExcept}
 use Rattle.stage_file.specs.Stage.{StageState, counted, is_staged, IsMarked, IsInStep}
 use Rattle.hash_pool.specs.Names.{pool_name}
 use Rattle.hash_pool.specs.Growth.{PoolGrows, Onward, targets}
@@ -41,14 +41,18 @@ pub record Sets {T E : Type 0} (path : Path) (bytes : List ℕ) (old new : Stage
 abbrev pub IsHeld : (List ℕ → Type 0) → List ℕ → Log → Log → Type 0
 IsHeld IsGiven said l m = (bytes : List ℕ) × IsGiven bytes × (sha256 bytes ≡ said) × (live_of m (pool_name said) ≡ option_or (live_of l (pool_name said)) (Some bytes))
 
+-- files were only staged: nothing was renamed, and at each moment all outside the folder of staged files is as it was
+abbrev pub OnlyStages : Log → List Op → Type 0
+OnlyStages l added = (targets added ≡ []) × Throughout (SameExcept (λ p. IsTrue (is_staged p)) l) l added
+
 -- A file was put into the pool under the said SHA-256, or the call broke off on the way. IsGiven tells which bytes it may have.
 pub record Lodges {T E : Type 0} (IsGiven : List ℕ → Type 0) (said : List ℕ) (old new : StageState) (result : Result T E) (l : Log) (added : List Op) : Type 0 where
   pub grows : PoolGrows l added
   -- a name that is there isn't set again
   pub kept : IsSome (live_of l (pool_name said)) → added ≡ []
   pub target : (targets added ≡ []) ⊎ (targets added ≡ pool_name said ∷ [])
-  -- nothing was done, or at each moment the name has what it had, or the given bytes, whole
-  pub whole : (added ≡ []) ⊎ ((bytes : List ℕ) × IsGiven bytes × (sha256 bytes ≡ said) × Throughout (SetsOne (pool_name said) bytes l) l added)
+  -- files were only staged, or at each moment the name has what it had, or the given bytes, whole
+  pub whole : OnlyStages l added ⊎ ((bytes : List ℕ) × IsGiven bytes × (sha256 bytes ≡ said) × Throughout (SetsOne (pool_name said) bytes l) l added)
   pub held : OnOk result (IsHeld IsGiven said l (extended added l))
   -- at most one staged file was laid
   pub stage : ((added ≡ []) × (new ≡ old)) ⊎ (new ≡ counted old)

@@ -1,7 +1,9 @@
 // A file is put into the pool.
-ghost use Rattle.std.specs.Prelude.{◌≡◌, IsErrOf, Some};
+ghost use Rattle.std.specs.Prelude.{◌≡◌, ◌≢◌, IsErrOf, None, Some};
 ghost use Rattle.ap_host.specs.Calls.{CauseOf, HasCause};
 ghost use Rattle.ap_host.specs.Changes.{GoesOn};
+ghost use Rattle.digest_set.specs.Difference.{difference};
+ghost use Rattle.digest_set.specs.Facts.{digests_of as facts};
 ghost use Rattle.sha2.specs.Sha256.{sha256 as sha256_of};
 ghost use Rattle.hash_pool.specs.declared.fault.PoolFault.TheVariants.{HostFault, InboxFault};
 ghost use Rattle.hash_pool.specs.Answers.{IsAnswer, IsPut};
@@ -76,6 +78,7 @@ pub fn put<H: Host>(
     ensures answer { IsAnswer (Some bytes.now) said.now result }
     ensures log { GoesOn (H.log host.old) (H.log host.new) (Lodges (IsPut bytes.now said.now) said.now.sha256 stage.old stage.new result) }
     ensures cause { CauseOf HostFault (H.faults host.old) (H.faults host.new) result }
+    ensures still { difference said.now (facts bytes.now) ≢ None → H.log host.new ≡ H.log host.old }
     ensures inbox { IsErrOf result InboxFault → ⊥ }
 {
     let digests = compared(alloc, bytes, said)?;

@@ -53,7 +53,7 @@ fn body<I: Inbox>(
 /// Takes a file of the inbox into the pool under its SHA-256, and gives its facts. `Absent` comes exactly where the inbox hasn't
 /// the file. `Mismatch` tells the first difference between what is said of the file and what was found, exactly where there is
 /// one: a file that hasn't the stated size isn't read, and one that ends before that has the size that was reached. Then nothing
-/// is done. Else the file is put into the pool as by [`put`]: a name that the pool has isn't set again, and no barrier is made.
+/// is renamed; a staged file may stay. Else the file is put into the pool as by [`put`]: a name that the pool has isn't set again, and no barrier is made.
 /// `HostFault` and `InboxFault` come only where the host or the inbox failed.
 pub fn take<H: Host, I: Inbox>(
     alloc: Global,

@@ -18,7 +18,8 @@ use Rattle.machine_state.specs.declared.arrived.UpdateFault.TheVariants as fault
 use Rattle.machine_state.specs.Limits.{limit_number}
 use Rattle.machine_state.specs.State.{Valid, text_length}
 use Rattle.machine_state.specs.Values.{StateView}
-use Rattle.local_repo.specs.Arrival.{Entry, Arrives, BytesArrive, or_refused, check_answer, within_catalogue, known_answer, entries_arrive, list_of}
+use Rattle.local_repo.specs.Arrival.{Entry, cards_of, Arrives, BytesArrive, or_refused, check_answer, within_catalogue, known_answer, entries_arrive, list_of}
+use Rattle.index_text.specs.Index.{ArePackages}
 use Rattle.local_repo.specs.Fits.{FitsIn, Fitting}
 use Rattle.local_repo.specs.Answers.{FaultGives, IsAnyFault, IsInputFault, IsArrival, IsListed, IsUnlisted, Comes, Adds, AddsAll}
 use Rattle.local_repo.proofs.FitLemmas.{taken_fits}
@@ -111,15 +112,19 @@ fitting_fits state name own list v e f =
     taken_fits state name f.joined list v f.ascending f.taken (ap (λ (x : List Card). append_answer x list) (sym e) ∙ c.appended) c.few c.texts
 
 -- ---- the log
-pub adds_list : (map : Option Files) (known list : List Card) (date : List ℕ) (s t : StageState) (l : Log) (a : List Op) → AddsAll map known (Ok list) s t l a → Adds map known (Ok (arrivals.List list date)) s t l a
-adds_list map known list date s t l a h = record { grows = h.grows; marked = h.marked; step = h.step; fills = h.fills; bodies = λ f told named all apart. h.bodies f told named apart all }
+module _ (map : Option Files) (folder : Path) (entries : List Entry) (packages : ArePackages entries) (listed : length folder ≤ 200 → (f : Files) → map ≡ Some f → IsListed f folder entries) (known : List Card) where
+  pub adds_list : (list : List Card) (date : List ℕ) (s t : StageState) (l : Log) (a : List Op) → AddsAll map (cards_of entries) known (Ok list) s t l a → Adds map folder known (Ok (arrivals.List list date)) s t l a
+  adds_list list date s t l a h = record { grows = h.grows; marked = h.marked; step = h.step; fills = h.fills; names = inr (entries, packages, listed, h.names); bodies = λ f told named all apart. h.bodies f told named apart all }
 
-pub adds_fails : (map : Option Files) (known : List Card) (r : Result (List Card) UpdateFault) (out : Result Arrived UpdateFault) (s t : StageState) (l : Log) (a : List Op) → IsErr out → AddsAll map known r s t l a → Adds map known out s t l a
-adds_fails map known r (Ok x) s t l a e h = absurd (let no : false ≡ true = e in cc)
-adds_fails map known r (Err x) s t l a e h = record { grows = h.grows; marked = h.marked; step = h.step; fills = h.fills; bodies = tt }
+  pub adds_fails : (r : Result (List Card) UpdateFault) (out : Result Arrived UpdateFault) (s t : StageState) (l : Log) (a : List Op) → IsErr out → AddsAll map (cards_of entries) known r s t l a → Adds map folder known out s t l a
+  adds_fails r (Ok x) s t l a e h = absurd (let no : false ≡ true = e in cc)
+  adds_fails r (Err x) s t l a e h = record { grows = h.grows; marked = h.marked; step = h.step; fills = h.fills; names = inr (entries, packages, listed, h.names); bodies = tt }
 
-pub adds_nothing : (map : Option Files) (known : List Card) (out : Result Arrived UpdateFault) (s : StageState) (l : Log) → IsErr out → Adds map known out s s l []
-adds_nothing map known out s l e = adds_fails map known (Err faults.OutOfMemory) out s s l [] e (all_nothing map known (Err faults.OutOfMemory) s l refl)
+pub adds_nothing : (map : Option Files) (folder : Path) (known : List Card) (out : Result Arrived UpdateFault) (s : StageState) (l : Log) → IsErr out → Adds map folder known out s s l []
+adds_nothing map folder known (Ok x) s l e = absurd (let no : false ≡ true = e in cc)
+adds_nothing map folder known (Err x) s l e =
+    let h = all_nothing map [] known (Err faults.OutOfMemory) s l refl in
+    record { grows = h.grows; marked = h.marked; step = h.step; fills = h.fills; names = inl refl; bodies = tt }
 
 pub of_input : (fault : UpdateFault) → IsInputFault fault → IsAnyFault fault
 of_input (faults.Refused refusal) h = h

@@ -2,7 +2,8 @@
 use Rattle.std.proofs.Common.{◌≡◌, ◌≤◌, Bool, true, false, cond, List, [], ◌∷◌, length, Option, Some, None, IsSome, unwrap_or, Result, Ok, Err, refl, sym, ap, ◌∙◌, subst, arith, find, length-append}
 use Rattle.std.specs.Option.{option_map}
 use Rattle.std.specs.Ordering.{is_eq}
-use Rattle.std.specs.List.{All, AllByRecursion}
+use Rattle.std.specs.List.{All, AllByRecursion, Contains}
+use Rattle.std.proofs.lemmas.List.Elements.{All-contains, All-contains_itself}
 use Rattle.std.specs.BTreeMap.{BTreeMap, get}
 use Rattle.ap_text.specs.Paths.{below_folder}
 use Rattle.ap_host.specs.Disk.{Path, Files}
@@ -25,7 +26,7 @@ use Rattle.machine_state.specs.declared.arrived.UpdateFault.TheVariants as fault
 use Rattle.local_repo.specs.Arrival.{Entry, and_then, or_refused, cards_of, entry_for, path_of, taken, each_taken, check_answer, fitting, entries_arrive}
 use Rattle.local_repo.specs.Answers.{Gives, FaultGives, AreShort}
 use Rattle.local_repo.specs.Files.{path_at}
-use Rattle.local_repo.proofs.ListLemmas.{by_places, all_map, all_union, each_itself}
+use Rattle.local_repo.proofs.ListLemmas.{by_places, each_of, all_map, all_union, each_itself}
 
 -- ---- packages that are joined
 pub joined_is : (limit : LimitKind) (cards list : List Card) → or_refused limit (join_answer cards) ≡ Ok list → list ≡ joined cards
@@ -44,6 +45,12 @@ cards_hold P (e ∷ es) h = (h.0, cards_hold P es h.1)
 
 pub joined_good : (entries : List Entry) → ArePackages entries → All (λ p. IsPackage p × IsSaid p.said) (joined (cards_of entries))
 joined_good entries h = by_places (λ p. IsPackage p × IsSaid p.said) (joined (cards_of entries)) (all_union package_total (λ p. IsPackage p × IsSaid p.said) [] (cards_of entries) tt (cards_hold (λ p. IsPackage p × IsSaid p.said) entries h))
+
+pub joined_among : (entries : List Entry) (p : Card) → Contains (joined (cards_of entries)) p → Contains (cards_of entries) p
+joined_among entries p h =
+    All-contains (Contains (cards_of entries)) (joined (cards_of entries)) p
+    (by_places (Contains (cards_of entries)) (joined (cards_of entries)) (all_union package_total (Contains (cards_of entries)) [] (cards_of entries) tt (each_of (Contains (cards_of entries)) (cards_of entries) (All-contains_itself (cards_of entries)))))
+    h
 
 -- ---- the paths of what was joined
 abbrev pub There : List Entry → Card → Type 0

@@ -12,3 +12,4 @@ pub mod StanzaLemmas
 pub mod EntryLemmas
 pub mod TotalLemmas
 pub mod LawLemmas
+pub mod FaultLemmas

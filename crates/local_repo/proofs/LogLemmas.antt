@@ -1,15 +1,16 @@
 -- What taking in one file does to the store.
-use Rattle.std.proofs.Common.{◌≡◌, ◌⊎◌, inl, inr, ℕ, Bool, true, false, List, [], ◌∷◌, ◌++◌, Option, Some, None, IsSome, Result, Ok, Err, refl, sym, ap, ◌∙◌, subst, IfOk, All, OnOk}
+use Rattle.std.proofs.Common.{◌≡◌, ◌⊎◌, inl, inr, ℕ, Bool, true, false, List, [], ◌∷◌, ◌++◌, Option, Some, None, IsSome, IsTrue, Result, Ok, Err, refl, sym, ap, ◌∙◌, subst, IfOk, All, OnOk}
 use Rattle.std.specs.Result.{IsErr}
 use Rattle.std.specs.Option.{ForSome, IfSome, option_or, unwrap_or}
-use Rattle.std.specs.List.{AllByRecursion}
+use Rattle.std.specs.List.{AllByRecursion, Contains}
 use Rattle.std.specs.Str.{bytes_eq}
 use Rattle.std.proofs.lemmas.Slice.Eq.{bytes_eq-Decides}
 use Rattle.sha2.specs.Sha256.{sha256}
 use Rattle.ap_host.specs.declared.host.Op.{Op}
 use Rattle.ap_host.specs.Disk.{Path, Content, Files, Log, extended, live_of}
+use Rattle.ap_host.specs.Changes.{SameExcept}
 use Rattle.ap_host.proofs.DiskLemmas.{extended-append, extended-none, Throughout-end}
-use Rattle.stage_file.specs.Stage.{StageState, IsMarked, IsInStep}
+use Rattle.stage_file.specs.Stage.{StageState, is_staged, IsMarked, IsInStep}
 use Rattle.digest_set.specs.declared.facts.Digests.{Digests}
 use Rattle.digest_set.specs.Facts.{digests_of}
 use Rattle.digest_set.specs.Difference.{difference}
@@ -19,16 +20,16 @@ use Rattle.package_core.proofs.OrderLaws.{package_total}
 use Rattle.package_list.specs.Sorted.{equal_of}
 use Rattle.hash_pool.specs.declared.fault.PoolFault.{PoolFault}
 use Rattle.hash_pool.specs.Names.{pool_name, IsDigest, IsNamed}
-use Rattle.hash_pool.specs.Growth.{HasGrown}
+use Rattle.hash_pool.specs.Growth.{HasGrown, targets}
 use Rattle.hash_pool.specs.Answers.{IsTaken}
 use Rattle.hash_pool.specs.Lodging.{Lodges, SetsOne, IsHeld}
-use Rattle.hash_pool.proofs.NameLemmas.{law_of_pool_names, pooled_not_staged, name_pooled, name_not_staged}
-use Rattle.hash_pool.proofs.GrowthLemmas.{law_of_growth, grows_none, grows_whole}
+use Rattle.hash_pool.proofs.NameLemmas.{law_of_pool_names, not_both, pooled_not_staged, name_pooled, name_not_staged}
+use Rattle.hash_pool.proofs.GrowthLemmas.{law_of_growth, grows_none, grows_whole, targets-append}
 use Rattle.machine_state.specs.declared.arrived.UpdateFault.{UpdateFault}
 use Rattle.local_repo.specs.Arrival.{compared, agreed, known_of, standing}
 use Rattle.local_repo.specs.Bodies.{HasBody, IsMet, DigestsApart}
-use Rattle.local_repo.specs.Answers.{Gives, Fills, AddsOne, AddsAll}
-use Rattle.local_repo.proofs.ListLemmas.{by_places, each_of, found_holds}
+use Rattle.local_repo.specs.Answers.{Gives, Fills, IsFileOf, AddsOne, AddsAll}
+use Rattle.local_repo.proofs.ListLemmas.{by_places, each_of, all_map, all_append, found_holds}
 use Rattle.local_repo.proofs.TakenLemmas.{find_holds}
 
 -- ---- what the pool holds
@@ -94,7 +95,7 @@ IsFilled f l m q = (live_of m q ≡ live_of l q) ⊎ ((from : Path) × (bytes : 
 
 pub lodged_fills : (map : Option Files) (path : Path) (p : Card) (r : Result Digests PoolFault) (s t : StageState) (l : Log) (a : List Op) → Lodges (IsTaken map path p.said r) p.said.sha256 s t r l a → ForSome map (λ f. Fills f l (extended a l))
 lodged_fills map path p r s t l a h f told q pooled = elim h.whole [
-  | inl none ↦ inl (ap (λ (o : List Op). live_of (extended o l) q) none ∙ ap (λ (m : Log). live_of m q) (extended-none l))
+  | inl only ↦ inl ((Throughout-end (SameExcept (λ r. IsTrue (is_staged r)) l) l a only.1).live q (λ staged. not_both (is_staged q) staged (pooled_not_staged q pooled)))
   | inr some ↦ set some.0 some.1 some.2 (Throughout-end (SetsOne (pool_name p.said.sha256) some.0 l) l a some.3)
 ]
   where
@@ -120,8 +121,8 @@ made_of (Ok q) path p found h = by_difference (difference p.said found) refl h
     by_difference None e g = (e, (let s : completed p found ≡ q = cc in sym s))
     by_difference (Some x) e g = cc
 
-pub fetched_adds : (map : Option Files) (path : Path) (p : Card) (r : Result Digests PoolFault) (out : Result Card UpdateFault) (s t : StageState) (l : Log) (a : List Op) → Lodges (IsTaken map path p.said r) p.said.sha256 s t r l a → IfOk out (λ q. (found : Digests) × (r ≡ Ok found) × (q ≡ completed p found)) → AddsOne map (λ _. Unit {0}) out s t l a
-fetched_adds map path p r out s t l a h made = record { grows = h.grows; marked = h.marked; step = h.step; fills = lodged_fills map path p r s t l a h; body = body out made }
+pub fetched_adds : (map : Option Files) (path : Path) (p : Card) (r : Result Digests PoolFault) (out : Result Card UpdateFault) (s t : StageState) (l : Log) (a : List Op) → Lodges (IsTaken map path p.said r) p.said.sha256 s t r l a → IfOk out (λ q. (found : Digests) × (r ≡ Ok found) × (q ≡ completed p found)) → AddsOne map p (λ _. Unit {0}) out s t l a
+fetched_adds map path p r out s t l a h made = record { grows = h.grows; marked = h.marked; step = h.step; fills = lodged_fills map path p r s t l a h; names = h.target; body = body out made }
   where
     one : (q : Card) (found : Digests) → r ≡ Ok found → q ≡ completed p found → (f : Files) → map ≡ Some f → IsNamed (live_of l) → DigestsApart (live_of l) f → HasBody (live_of (extended a l)) q
     one q found ok is f told named apart =
@@ -136,16 +137,16 @@ fetched_adds map path p r out s t l a h made = record { grows = h.grows; marked 
     body (Ok q) m = λ f told named apart u. one q m.0 m.1 m.2 f told named apart
 
 -- nothing was done
-pub nothing_adds : (map : Option Files) (Needs : Files → Type 0) (out : Result Card UpdateFault) (s : StageState) (l : Log) → IfOk out (λ q. Needs (live_of l) → HasBody (live_of l) q) → AddsOne map Needs out s s l []
-nothing_adds map Needs out s l h = record { grows = grows_none l; marked = inr (refl, refl); step = stays_none s l; fills = λ f told. fills_none f l; body = body out h }
+pub nothing_adds : (map : Option Files) (one : Card) (Needs : Files → Type 0) (out : Result Card UpdateFault) (s : StageState) (l : Log) → IfOk out (λ q. Needs (live_of l) → HasBody (live_of l) q) → AddsOne map one Needs out s s l []
+nothing_adds map one Needs out s l h = record { grows = grows_none l; marked = inr (refl, refl); step = stays_none s l; fills = λ f told. fills_none f l; names = inl refl; body = body out h }
   where
     body : (o : Result Card UpdateFault) → IfOk o (λ q. Needs (live_of l) → HasBody (live_of l) q) → IfOk o (λ q. ForSome map (λ f. IsNamed (live_of l) → DigestsApart (live_of l) f → Needs (live_of l) → HasBody (live_of (extended [] l)) q))
     body (Err e) m = tt
     body (Ok q) m = λ f told named apart needs. subst (λ (x : Log). HasBody (live_of x) q) (sym (extended-none l)) (m needs)
 
 -- the same call, whose answer came to another one
-pub adds_on : (map : Option Files) (Needs More : Files → Type 0) (out made : Result Card UpdateFault) (s t : StageState) (l : Log) (a : List Op) → (More (live_of l) → Needs (live_of l)) → AddsOne map Needs made s t l a → IfOk out (λ q. (p : Card) × (made ≡ Ok p) × (More (live_of l) → HasGrown l (extended a l) → HasBody (live_of (extended a l)) p → HasBody (live_of (extended a l)) q)) → AddsOne map More out s t l a
-adds_on map Needs More out made s t l a needs h on = record { grows = h.grows; marked = h.marked; step = h.step; fills = h.fills; body = body out on }
+pub adds_on : (map : Option Files) (card : Card) (Needs More : Files → Type 0) (out made : Result Card UpdateFault) (s t : StageState) (l : Log) (a : List Op) → (More (live_of l) → Needs (live_of l)) → AddsOne map card Needs made s t l a → IfOk out (λ q. (p : Card) × (made ≡ Ok p) × (More (live_of l) → HasGrown l (extended a l) → HasBody (live_of (extended a l)) p → HasBody (live_of (extended a l)) q)) → AddsOne map card More out s t l a
+adds_on map card Needs More out made s t l a needs h on = record { grows = h.grows; marked = h.marked; step = h.step; fills = h.fills; names = h.names; body = body out on }
   where
     one : (p q : Card) → made ≡ Ok p → (More (live_of l) → HasGrown l (extended a l) → HasBody (live_of (extended a l)) p → HasBody (live_of (extended a l)) q) → ForSome map (λ f. IsNamed (live_of l) → DigestsApart (live_of l) f → More (live_of l) → HasBody (live_of (extended a l)) q)
     one p q is turn f told named apart more =
@@ -187,18 +188,22 @@ all_last : {X : Type 0} (P : X → Type 0) (xs : List X) (x : X) → AllByRecurs
 all_last P [] x h p = (p, tt)
 all_last P (y ∷ ys) x h p = (h.0, all_last P ys x h.1 p)
 
-pub all_none : (map : Option Files) (known xs : List Card) (s : StageState) (l : Log) → xs ≡ [] → AddsAll map known (Ok xs) s s l []
-all_none map known xs s l none = subst (λ (ys : List Card). AddsAll map known (Ok ys) s s l []) (sym none) (record { grows = grows_none l; marked = inr (refl, refl); step = stays_none s l; fills = λ f told. fills_none f l; bodies = λ f told named apart all. by_places (HasBody (live_of (extended [] l))) [] tt })
+pub all_none : (map : Option Files) (packages known xs : List Card) (s : StageState) (l : Log) → xs ≡ [] → AddsAll map packages known (Ok xs) s s l []
+all_none map packages known xs s l none = subst (λ (ys : List Card). AddsAll map packages known (Ok ys) s s l []) (sym none) (record { grows = grows_none l; marked = inr (refl, refl); step = stays_none s l; fills = λ f told. fills_none f l; names = tt; bodies = λ f told named apart all. by_places (HasBody (live_of (extended [] l))) [] tt })
 
-pub all_nothing : (map : Option Files) (known : List Card) (out : Result (List Card) UpdateFault) (s : StageState) (l : Log) → IsErr out → AddsAll map known out s s l []
-all_nothing map known (Ok xs) s l e = absurd (let no : false ≡ true = e in cc)
-all_nothing map known (Err e) s l is = record { grows = grows_none l; marked = inr (refl, refl); step = stays_none s l; fills = λ f told. fills_none f l; bodies = tt }
+pub all_nothing : (map : Option Files) (packages known : List Card) (out : Result (List Card) UpdateFault) (s : StageState) (l : Log) → IsErr out → AddsAll map packages known out s s l []
+all_nothing map packages known (Ok xs) s l e = absurd (let no : false ≡ true = e in cc)
+all_nothing map packages known (Err e) s l is = record { grows = grows_none l; marked = inr (refl, refl); step = stays_none s l; fills = λ f told. fills_none f l; names = tt; bodies = tt }
 
-pub all_fails : (map : Option Files) (known xs : List Card) (out : Result (List Card) UpdateFault) (s t : StageState) (l : Log) (a : List Op) → IsErr out → AddsAll map known (Ok xs) s t l a → AddsAll map known out s t l a
-all_fails map known xs (Ok ys) s t l a e h = absurd (let no : false ≡ true = e in cc)
-all_fails map known xs (Err e) s t l a is h = record { grows = h.grows; marked = h.marked; step = h.step; fills = h.fills; bodies = tt }
+pub all_fails : (map : Option Files) (packages known : List Card) (made out : Result (List Card) UpdateFault) (s t : StageState) (l : Log) (a : List Op) → IsErr out → AddsAll map packages known made s t l a → AddsAll map packages known out s t l a
+all_fails map packages known made (Ok ys) s t l a e h = absurd (let no : false ≡ true = e in cc)
+all_fails map packages known made (Err e) s t l a is h = record { grows = h.grows; marked = h.marked; step = h.step; fills = h.fills; names = h.names; bodies = tt }
 
-module _ (map : Option Files) (known xs : List Card) (one : Result Card UpdateFault) (s t u : StageState) (l : Log) (a b : List Op) (h : AddsAll map known (Ok xs) s t l a) (g : AddsOne map (λ f. All (HasBody f) known) one t u (extended a l) b) where
+-- among more packages
+pub all_among : (map : Option Files) (few many known : List Card) → ((p : Card) → Contains few p → Contains many p) → (made : Result (List Card) UpdateFault) (s t : StageState) (l : Log) (a : List Op) → AddsAll map few known made s t l a → AddsAll map many known made s t l a
+all_among map few many known within made s t l a h = record { grows = h.grows; marked = h.marked; step = h.step; fills = h.fills; names = all_map (IsFileOf few) (IsFileOf many) (λ path n. (n.0, within n.0 n.1, n.2)) (targets a) h.names; bodies = h.bodies }
+
+module _ (map : Option Files) (packages known xs : List Card) (card : Card) (in_list : Contains packages card) (one : Result Card UpdateFault) (s t u : StageState) (l : Log) (a b : List Op) (h : AddsAll map packages known (Ok xs) s t l a) (g : AddsOne map card (λ f. All (HasBody f) known) one t u (extended a l) b) where
   then_step : IsInStep s l → IsInStep u (extended (a ++ b) l)
   then_step i = subst (λ (m : Log). IsInStep u m) (extended-append a b l) (g.step (h.step i))
 
@@ -215,9 +220,15 @@ module _ (map : Option Files) (known xs : List Card) (one : Result Card UpdateFa
       let here = given f told (named_after f l m (h.fills f told) named) (apart_after f l m (h.fills f told) apart) (by_places (HasBody (live_of m)) known known_there) in
       subst (λ (e : Log). All (HasBody (live_of e)) (xs ++ q ∷ [])) (extended-append a b l) (by_places (HasBody (live_of n)) (xs ++ q ∷ []) (all_last (HasBody (live_of n)) xs q before here))
 
-  pub all_more : (q : Card) → one ≡ Ok q → AddsAll map known (Ok (xs ++ q ∷ [])) s u l (a ++ b)
-  all_more q is = record { grows = law_of_growth.then l a b h.grows g.grows; marked = marked_then s t u a b h.marked g.marked; step = then_step; fills = then_fills; bodies = then_body q is }
+  then_new : AllByRecursion (IsFileOf packages) (targets (a ++ b))
+  then_new = subst (AllByRecursion (IsFileOf packages)) (sym (targets-append a b)) (all_append (IsFileOf packages) (targets a) (targets b) h.names (elim g.names [
+    | inl none ↦ subst (AllByRecursion (IsFileOf packages)) (sym none) tt
+    | inr set ↦ subst (AllByRecursion (IsFileOf packages)) (sym set) ((card, in_list, refl), tt)
+  ]))
 
-  pub all_stops : (out : Result (List Card) UpdateFault) → IsErr out → AddsAll map known out s u l (a ++ b)
+  pub all_more : (q : Card) → one ≡ Ok q → AddsAll map packages known (Ok (xs ++ q ∷ [])) s u l (a ++ b)
+  all_more q is = record { grows = law_of_growth.then l a b h.grows g.grows; marked = marked_then s t u a b h.marked g.marked; step = then_step; fills = then_fills; names = then_new; bodies = then_body q is }
+
+  pub all_stops : (out : Result (List Card) UpdateFault) → IsErr out → AddsAll map packages known out s u l (a ++ b)
   all_stops (Ok ys) e = absurd (let no : false ≡ true = e in cc)
-  all_stops (Err e) is = record { grows = law_of_growth.then l a b h.grows g.grows; marked = marked_then s t u a b h.marked g.marked; step = then_step; fills = then_fills; bodies = tt }
+  all_stops (Err e) is = record { grows = law_of_growth.then l a b h.grows g.grows; marked = marked_then s t u a b h.marked g.marked; step = then_step; fills = then_fills; names = then_new; bodies = tt }

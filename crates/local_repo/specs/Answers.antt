@@ -1,19 +1,25 @@
 -- What the arrival of a folder answers, and what it does to the store.
-use Rattle.std.specs.Prelude.{◌≡◌, ◌⊎◌, ℕ, List, [], All, Option, Some, None, Result, Ok, Err, IfOk, IsTrue, ◌≤◌, length}
-use Rattle.std.specs.List.{AllByRecursion}
+use Rattle.std.specs.Prelude.{◌≡◌, ◌⊎◌, ℕ, ◌<◌, List, [], ◌∷◌, All, Option, Some, None, Result, Ok, Err, IfOk, IsTrue, ◌≤◌, length}
+use Rattle.std.specs.List.{AllByRecursion, Contains}
+use Rattle.std.specs.Fmt.{decimal}
 use Rattle.std.specs.Option.{ForSome}
 use Rattle.ap_host.specs.declared.host.Op.{Op}
 use Rattle.ap_host.specs.declared.inbox.InboxErr.{InboxErr}
 use Rattle.ap_host.specs.declared.inbox.InboxErr.TheVariants.{Failed, OutOfMemory as NoMemory}
 use Rattle.ap_host.specs.Disk.{Path, Files, Log, extended, live_of}
 use Rattle.sha2.specs.Sha256.{sha256}
+use Rattle.digest_set.specs.declared.facts.Digests.{Digests}
+use Rattle.digest_set.specs.declared.facts.Said.{Said}
+use Rattle.digest_set.specs.declared.facts.What.{What}
+use Rattle.digest_set.specs.declared.facts.What.TheVariants.{Size}
+use Rattle.digest_set.specs.Difference.{difference}
 use Rattle.package_core.specs.Card.{Card}
 use Rattle.stage_file.specs.Stage.{StageState, IsMarked, IsInStep}
 use Rattle.hash_pool.specs.declared.fault.PoolFault.{PoolFault}
 use Rattle.hash_pool.specs.declared.fault.PoolFault.TheVariants as pool_faults
 use Rattle.hash_pool.specs.Names.{IsNamed, is_pooled, pool_name}
-use Rattle.hash_pool.specs.Growth.{PoolGrows}
-use Rattle.index_text.specs.Index.{IsAt, Lists}
+use Rattle.hash_pool.specs.Growth.{PoolGrows, targets}
+use Rattle.index_text.specs.Index.{ArePackages, IsAt, Lists}
 use Rattle.package_list.specs.declared.fault.ListFault.{ListFault}
 use Rattle.package_list.specs.declared.fault.ListFault.TheVariants as list_faults
 use Rattle.machine_state.specs.declared.limit.Limit.{Limit as LimitKind}
@@ -25,7 +31,7 @@ use Rattle.machine_state.specs.declared.arrived.Arrived.TheVariants as arrivals
 use Rattle.machine_state.specs.declared.arrived.UpdateFault.{UpdateFault}
 use Rattle.machine_state.specs.declared.arrived.UpdateFault.TheVariants as faults
 use Rattle.machine_state.specs.Values.{StateView}
-use Rattle.local_repo.specs.Arrival.{Arrives, Entry, index_bytes, index_path}
+use Rattle.local_repo.specs.Arrival.{Arrives, Entry, cards_of, index_bytes, index_path}
 use Rattle.local_repo.specs.Fits.{FitsIn}
 use Rattle.local_repo.specs.Bodies.{HasBody, DigestsApart}
 
@@ -38,11 +44,15 @@ IsInputLimit Known = Unit {0}
 IsInputLimit Catalogue = Unit {0}
 IsInputLimit _ = ⊥
 
+-- these are the texts of a fact that was said of a file and of what was found otherwise
+abbrev pub AreDifferent : What → List ℕ → List ℕ → Type 0
+AreDifferent what said found = (told : Said) × (is : Digests) × (difference told is ≡ Some (what, said, found))
+
 -- a refusal of some step of an arrival
 abbrev pub IsInputRefusal : Refusal → Type 0
 IsInputRefusal (InputAbsent path) = Unit {0}
 IsInputRefusal (InputMalformed path line) = Unit {0}
-IsInputRefusal (InputMismatch path what said found) = Unit {0}
+IsInputRefusal (InputMismatch path what said found) = AreDifferent what said found
 IsInputRefusal (Conflict triple) = Unit {0}
 IsInputRefusal (Limit limit) = IsInputLimit limit
 IsInputRefusal _ = ⊥
@@ -70,6 +80,15 @@ IsAnyFault fault = Unit {0}
 abbrev pub IsNoRefusal : UpdateFault → Type 0
 IsNoRefusal (faults.Refused refusal) = ⊥
 IsNoRefusal fault = Unit {0}
+
+-- what is told of an index that differs is that it ends early: its length, and the shorter one that was reached
+abbrev pub EndsEarlyIf : Path → Refusal → Type 0
+EndsEarlyIf path (InputMismatch at what said found) = (at ≡ path) × (what ≡ Size) × (n m : ℕ) × (m < n) × (said ≡ decimal n) × (found ≡ decimal m)
+EndsEarlyIf path refusal = Unit {0}
+
+abbrev pub OfIndex : Path → UpdateFault → Type 0
+OfIndex path (faults.Refused refusal) = EndsEarlyIf path refusal
+OfIndex path fault = Unit {0}
 
 -- this refusal, or want of memory
 abbrev pub Tells : UpdateFault → Refusal → Type 0
@@ -162,28 +181,42 @@ Fills inbox l m =
     (p : Path) → IsTrue (is_pooled p) → (live_of m p ≡ live_of l p) ⊎ ((q : Path) × (bytes : List ℕ) × (inbox q ≡ Some bytes) × (p ≡ pool_name (sha256 bytes)) × (live_of m p ≡ Some bytes))
 
 -- The pool has grown by the body of one package, or the call broke off.
-pub record AddsOne (inbox : Option Files) (Needs : Files → Type 0) (result : Result Card UpdateFault) (old new : StageState) (l : Log) (ops : List Op) : Type 0 where
+pub record AddsOne (inbox : Option Files) (one : Card) (Needs : Files → Type 0) (result : Result Card UpdateFault) (old new : StageState) (l : Log) (ops : List Op) : Type 0 where
   pub grows : PoolGrows l ops
   pub marked : IsMarked old new ops
   pub step : IsInStep old l → IsInStep new (extended ops l)
   pub fills : ForSome inbox (λ files. Fills files l (extended ops l))
+  -- what is renamed is the file that is said of the package
+  pub names : (targets ops ≡ []) ⊎ (targets ops ≡ pool_name one.said.sha256 ∷ [])
   pub body : IfOk result (λ p. ForSome inbox (λ files. IsNamed (live_of l) → DigestsApart (live_of l) files → Needs (live_of l) → HasBody (live_of (extended ops l)) p))
 
+-- the name in the pool of the file that is said of one of these packages
+abbrev pub IsFileOf : List Card → Path → Type 0
+IsFileOf packages path = (p : Card) × Contains packages p × (path ≡ pool_name p.said.sha256)
+
 -- The pool has grown by the bodies of packages, or of some of them where the call broke off.
-pub record AddsAll (inbox : Option Files) (known : List Card) (result : Result (List Card) UpdateFault) (old new : StageState) (l : Log) (ops : List Op) : Type 0 where
+pub record AddsAll (inbox : Option Files) (packages known : List Card) (result : Result (List Card) UpdateFault) (old new : StageState) (l : Log) (ops : List Op) : Type 0 where
   pub grows : PoolGrows l ops
   pub marked : IsMarked old new ops
   pub step : IsInStep old l → IsInStep new (extended ops l)
   pub fills : ForSome inbox (λ files. Fills files l (extended ops l))
+  pub names : AllByRecursion (IsFileOf packages) (targets ops)
   pub bodies : IfOk result (λ list. ForSome inbox (λ files.
       IsNamed (live_of l) → DigestsApart (live_of l) files → All (HasBody (live_of l)) known → All (HasBody (live_of (extended ops l))) list))
 
+-- these are names of files that are said of packages of one index, which is that of the folder if the inbox tells
+abbrev pub AreOfIndex : Option Files → Path → List Path → Type 0
+AreOfIndex inbox folder paths =
+    (entries : List Entry) × ArePackages entries × (length folder ≤ 200 → ForSome inbox (λ files. IsListed files folder entries)) × AllByRecursion (IsFileOf (cards_of entries)) paths
+
 -- The pool has grown by the bodies of what arrived, or of some of it where the call broke off.
-pub record Adds (inbox : Option Files) (known : List Card) (result : Result Arrived UpdateFault) (old new : StageState) (l : Log) (ops : List Op) : Type 0 where
+pub record Adds (inbox : Option Files) (folder : Path) (known : List Card) (result : Result Arrived UpdateFault) (old new : StageState) (l : Log) (ops : List Op) : Type 0 where
   pub grows : PoolGrows l ops
   pub marked : IsMarked old new ops
   pub step : IsInStep old l → IsInStep new (extended ops l)
   pub fills : ForSome inbox (λ files. Fills files l (extended ops l))
+  -- what is renamed is said of the index
+  pub names : (targets ops ≡ []) ⊎ AreOfIndex inbox folder (targets ops)
   -- Where the pool is named by SHA-256 and has the known bodies, and no two of its files and the inbox's share a SHA-256, it has each
   -- body of the list.
   pub bodies : IfList result (λ list. ForSome inbox (λ files.

@@ -13,7 +13,7 @@ ghost use Rattle.package_list.specs.Sorted.{IsAscending};
 ghost use Rattle.index_text.specs.Index.{ArePackages};
 ghost use Rattle.machine_state.specs.declared.arrived.UpdateFault.TheVariants.{HostFault, InboxFault, OutOfMemory};
 ghost use Rattle.machine_state.specs.State.{IsCatalogue, Valid};
-ghost use Rattle.local_repo.specs.Arrival.{each_taken, entries_arrive, known_of, list_in, taken};
+ghost use Rattle.local_repo.specs.Arrival.{cards_of, each_taken, entries_arrive, known_of, list_in, taken};
 ghost use Rattle.local_repo.specs.Answers.{Comes, IfList, Gives, IsAnyFault, IsOwnFault, Adds, AddsAll, AddsOne, AreShort};
 ghost use Rattle.local_repo.specs.Bodies.{HasBody};
 ghost use Rattle.local_repo.specs.Files.{file_of, path_at};
@@ -71,7 +71,7 @@ fn take_next<H: Host, I: Inbox>(
     ensures taken { IfOk result (λ q. IsCatalogue known.now → IsPackage one.now.value → IsSaid one.now.value.said → IsTaken known.now one.now.value q) }
     ensures same { IfOk result (λ q. package_cmp one.now.value q ≡ Equal) }
     ensures fault { IfErr result IsAnyFault }
-    ensures log { GoesOn (H.log host.old) (H.log host.new) (AddsOne (I.map inbox.old) (λ f. All (HasBody f) known.now) result stage.old stage.new) }
+    ensures log { GoesOn (H.log host.old) (H.log host.new) (AddsOne (I.map inbox.old) one.now.value (λ f. All (HasBody f) known.now) result stage.old stage.new) }
     ensures map { I.map inbox.new ≡ I.map inbox.old }
     ensures cause { CauseOf HostFault (H.faults host.old) (H.faults host.new) result }
     ensures input { CauseOf InboxFault (I.faults inbox.old) (I.faults inbox.new) result }
@@ -96,7 +96,7 @@ fn take_all<H: Host, I: Inbox>(
     ensures told { IsCatalogue known.now → All (λ p. length (below_folder folder.now (path_at paths.now p)) ≤ 1000) list.now → ForSome (I.map inbox.old) (λ f. Gives result (each_taken (λ p. taken f known.now (below_folder folder.now (path_at paths.now p)) p) list.now)) }
     ensures taken { IfOk result (λ qs. IsCatalogue known.now → All (λ p. IsPackage p × IsSaid p.said) list.now → AreTaken known.now list.now qs) }
     ensures fault { IfErr result IsAnyFault }
-    ensures log { GoesOn (H.log host.old) (H.log host.new) (AddsAll (I.map inbox.old) known.now result stage.old stage.new) }
+    ensures log { GoesOn (H.log host.old) (H.log host.new) (AddsAll (I.map inbox.old) list.now known.now result stage.old stage.new) }
     ensures map { I.map inbox.new ≡ I.map inbox.old }
     ensures cause { CauseOf HostFault (H.faults host.old) (H.faults host.new) result }
     ensures input { CauseOf InboxFault (I.faults inbox.old) (I.faults inbox.new) result }
@@ -124,7 +124,7 @@ fn take_entries<H: Host, I: Inbox>(
     ensures told { IsCatalogue known.now → length folder.now ≤ 200 → AreShort entries.items → ForSome (I.map inbox.old) (λ f. Gives result (entries_arrive f known.now (list_in (option_copied repo.entry)) folder.now entries.items)) }
     ensures fits { IfOk result (λ list. IsCatalogue known.now → ArePackages entries.items → Fitting known.now (list_in (option_copied repo.entry)) list) }
     ensures fault { IfErr result IsAnyFault }
-    ensures log { GoesOn (H.log host.old) (H.log host.new) (AddsAll (I.map inbox.old) known.now result stage.old stage.new) }
+    ensures log { GoesOn (H.log host.old) (H.log host.new) (AddsAll (I.map inbox.old) (cards_of entries.items) known.now result stage.old stage.new) }
     ensures map { I.map inbox.new ≡ I.map inbox.old }
     ensures cause { CauseOf HostFault (H.faults host.old) (H.faults host.new) result }
     ensures input { CauseOf InboxFault (I.faults inbox.old) (I.faults inbox.new) result }
@@ -155,7 +155,7 @@ fn take_entries<H: Host, I: Inbox>(
 ///    200,000, else `Limit(Packages)`; together with the known ones they are at most 400,000, else `Limit(Known)`, and their texts have
 ///    at most 1,073,741,824 bytes, else `Limit(Catalogue)`.
 ///
-/// Pool files that were taken in before a refusal stay. `HostFault` and `InboxFault` come only where the host or the inbox failed. It
+/// Pool files that were taken in before a refusal stay. Each is one that the index names by its SHA-256. `HostFault` and `InboxFault` come only where the host or the inbox failed. It
 /// is meant for a valid state and a folder of at most 200 bytes. Then it gives a list or a refusal, never `Nothing`.
 pub fn add<H: Host, I: Inbox>(
     alloc: Global,
@@ -168,7 +168,7 @@ pub fn add<H: Host, I: Inbox>(
 ) -> Result<Arrived, UpdateFault>
     ensures told { Valid state.now → length folder.now ≤ 200 → Comes (I.map inbox.old) state.now repo.now folder.now result }
     ensures fits { Valid state.now → IfList result (FitsIn state.now repo.now) }
-    ensures log { GoesOn (H.log host.old) (H.log host.new) (Adds (I.map inbox.old) state.now.known result stage.old stage.new) }
+    ensures log { GoesOn (H.log host.old) (H.log host.new) (Adds (I.map inbox.old) folder.now state.now.known result stage.old stage.new) }
     ensures map { I.map inbox.new ≡ I.map inbox.old }
     ensures cause { CauseOf HostFault (H.faults host.old) (H.faults host.new) result }
     ensures input { CauseOf InboxFault (I.faults inbox.old) (I.faults inbox.new) result }

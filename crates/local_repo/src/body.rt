@@ -79,7 +79,7 @@ fn fetched<H: Host, I: Inbox>(
     ensures made { IfOk result (IsCompleted one.now) }
     ensures same { IfOk result (λ q. package_cmp one.now q ≡ Equal) }
     ensures fault { IfErr result IsAnyFault }
-    ensures log { GoesOn (H.log host.old) (H.log host.new) (AddsOne (I.map inbox.old) (λ _. Unit {0}) result stage.old stage.new) }
+    ensures log { GoesOn (H.log host.old) (H.log host.new) (AddsOne (I.map inbox.old) one.now (λ _. Unit {0}) result stage.old stage.new) }
     ensures map { I.map inbox.new ≡ I.map inbox.old }
     ensures cause { CauseOf HostFault (H.faults host.old) (H.faults host.new) result }
     ensures input { CauseOf InboxFault (I.faults inbox.old) (I.faults inbox.new) result }
@@ -105,7 +105,7 @@ fn made<H: Host, I: Inbox>(
     ensures made { IfOk result (λ q. IfWhole (file_of files.now one.now.said.sha256) (IsCompleted one.now q)) }
     ensures same { IfOk result (λ q. package_cmp one.now q ≡ Equal) }
     ensures fault { IfErr result IsAnyFault }
-    ensures log { GoesOn (H.log host.old) (H.log host.new) (AddsOne (I.map inbox.old) (λ f. IfSome (file_of files.now one.now.said.sha256) (HasBody f)) result stage.old stage.new) }
+    ensures log { GoesOn (H.log host.old) (H.log host.new) (AddsOne (I.map inbox.old) one.now (λ f. IfSome (file_of files.now one.now.said.sha256) (HasBody f)) result stage.old stage.new) }
     ensures map { I.map inbox.new ≡ I.map inbox.old }
     ensures cause { CauseOf HostFault (H.faults host.old) (H.faults host.new) result }
     ensures input { CauseOf InboxFault (I.faults inbox.old) (I.faults inbox.new) result }
@@ -132,7 +132,7 @@ pub(crate) fn take_one<H: Host, I: Inbox>(
     ensures taken { IfOk result (λ q. IsCatalogue known.now → IsPackage one.now → IsSaid one.now.said → IsTaken known.now one.now q) }
     ensures same { IfOk result (λ q. package_cmp one.now q ≡ Equal) }
     ensures fault { IfErr result IsAnyFault }
-    ensures log { GoesOn (H.log host.old) (H.log host.new) (AddsOne (I.map inbox.old) (λ f. All (HasBody f) known.now) result stage.old stage.new) }
+    ensures log { GoesOn (H.log host.old) (H.log host.new) (AddsOne (I.map inbox.old) one.now (λ f. All (HasBody f) known.now) result stage.old stage.new) }
     ensures map { I.map inbox.new ≡ I.map inbox.old }
     ensures cause { CauseOf HostFault (H.faults host.old) (H.faults host.new) result }
     ensures input { CauseOf InboxFault (I.faults inbox.old) (I.faults inbox.new) result }

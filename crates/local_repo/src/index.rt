@@ -1,13 +1,16 @@
 //! The index of a folder.
 ghost use Rattle.std.specs.Prelude.{◌≡◌, ◌+◌, ◌≤◌, length as length_of, IfOk, IfErr, IsErrOf, MatchResult, option_map};
+ghost use Rattle.std.specs.Fmt.{decimal};
 ghost use Rattle.std.specs.Option.{ForSome};
 ghost use Rattle.ap_text.specs.Paths.{below_folder};
 ghost use Rattle.ap_host.specs.Calls.{CauseOf};
+ghost use Rattle.digest_set.specs.declared.facts.What.TheVariants.{Size};
 ghost use Rattle.hash_pool.specs.Reading.{IsReadTo};
 ghost use Rattle.index_text.specs.Index.{Lists, ArePackages};
 ghost use Rattle.machine_state.specs.declared.arrived.UpdateFault.TheVariants.{HostFault, InboxFault, OutOfMemory};
+ghost use Rattle.machine_state.specs.declared.refusal.Refusal.TheVariants.{InputAbsent, InputMismatch};
 ghost use Rattle.local_repo.specs.Arrival.{index_bytes, index_path};
-ghost use Rattle.local_repo.specs.Answers.{AreShort, Gives, IsInputFault, IsListed, IsOwnFault, IsNoRefusal, IsMalformed, IsUnlisted};
+ghost use Rattle.local_repo.specs.Answers.{AreShort, Gives, IsInputFault, IsListed, IsOwnFault, IsNoRefusal, IsMalformed, IsUnlisted, OfIndex, Tells};
 
 use crate::fault::{absent, differs, malformed, of_inbox, over};
 use ap_host::{Bytes, Inbox};
@@ -31,7 +34,7 @@ pub(crate) fn path_below(
 ) -> Result<SafePath, UpdateFault>
     ensures path { IfOk result (λ path. path ≡ below_folder folder.now rest.now) }
     ensures short { length_of (below_folder folder.now rest.now) ≤ 1000 → IfErr result (λ e. e ≡ OutOfMemory) }
-    ensures fault { IfErr result IsOwnFault }
+    ensures fault { IfErr result (λ e. Tells e (InputAbsent folder.now)) }
 {
     if folder.as_str().len() + rest.as_str().len() >= 1000 {
         return Err(absent(alloc, folder));
@@ -43,7 +46,7 @@ pub(crate) fn path_below(
 fn path_of_index(alloc: Global, folder: &SafePath) -> Result<SafePath, UpdateFault>
     ensures path { IfOk result (λ path. path ≡ index_path folder.now) }
     ensures short { length_of folder.now ≤ 200 → IfErr result (λ e. e ≡ OutOfMemory) }
-    ensures fault { IfErr result IsOwnFault }
+    ensures fault { IfErr result (λ e. Tells e (InputAbsent folder.now)) }
 {
     let name = SafePath::fixed(alloc, INDEX)?;
     path_below(alloc, folder, &name)
@@ -70,6 +73,7 @@ fn bytes_of<I: Inbox>(
     path: &SafePath,
     length: u64,
 ) -> Result<Bytes, UpdateFault>
+    ensures bound { IfOk result (λ bytes. length_of bytes ≤ length) }
     ensures told { IfOk result (λ bytes. ForSome (I.map inbox.old) (λ f. IsReadTo length (f path.now) bytes)) }
     ensures fault { IfErr result IsNoRefusal }
     ensures host { IsErrOf result HostFault → ⊥ }
@@ -84,7 +88,7 @@ fn bytes_of<I: Inbox>(
 
 /// The file ends before its length.
 fn ends_early(alloc: Global, path: &SafePath, said: u64, found: u64) -> UpdateFault
-    ensures { IsOwnFault result }
+    ensures { Tells result (InputMismatch path.now Size (decimal said) (decimal found)) }
 {
     let Ok(said) = Digits::decimal(alloc, said) else {
         return UpdateFault::OutOfMemory;
@@ -99,6 +103,7 @@ fn ends_early(alloc: Global, path: &SafePath, said: u64, found: u64) -> UpdateFa
 fn read_index<I: Inbox>(alloc: Global, inbox: &mut I, path: &SafePath) -> Result<Bytes, UpdateFault>
     ensures told { ForSome (I.map inbox.old) (λ f. Gives result (index_bytes path.now (f path.now))) }
     ensures fault { IfErr result IsInputFault }
+    ensures early { IfErr result (OfIndex path.now) }
     ensures map { I.map inbox.new ≡ I.map inbox.old }
     ensures cause { CauseOf InboxFault (I.faults inbox.old) (I.faults inbox.new) result }
 {
@@ -143,6 +148,7 @@ pub(crate) fn read_folder<I: Inbox>(
     ensures packages { IfOk result (λ v. ArePackages v.items) }
     ensures short { IfOk result (λ v. AreShort v.items) }
     ensures fault { IfErr result IsInputFault }
+    ensures early { IfErr result (OfIndex (index_path folder.now)) }
     ensures map { I.map inbox.new ≡ I.map inbox.old }
     ensures cause { CauseOf InboxFault (I.faults inbox.old) (I.faults inbox.new) result }
 {

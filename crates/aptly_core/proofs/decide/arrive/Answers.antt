@@ -10,4 +10,4 @@ pub returns-in-Mirror-clause-log : goal.returns-in-Mirror-clause-log
 returns-in-Mirror-clause-log g c = GoesOn-none _ _ _ refl (λ l. arrives_nothing _ _ _ _ l)
 
 pub returns-clause-log : goal.returns-clause-log
-returns-clause-log g c = GoesOn-map _ _ _ _ c.add.ensures.log (λ l a w. arrives_added _ _ c.args.reading (λ e. let no = sym c.in-Folder.is ∙ e in absurd (cc)) _ _ _ _ c.arrived_of.ensures l a w)
+returns-clause-log g c = GoesOn-map _ _ _ _ c.add.ensures.log (λ l a w. arrives_added _ _ _ c.args.reading (λ e. let no = sym c.in-Folder.is ∙ e in absurd (cc)) _ _ _ _ c.arrived_of.ensures l a w)

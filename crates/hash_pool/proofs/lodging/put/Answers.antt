@@ -3,7 +3,7 @@ use Rattle.std.proofs.lemmas.Result.{err_from_is_err_and}
 use Rattle.ap_host.proofs.ChangeLemmas.{GoesOn-map, GoesOn-none}
 use Rattle.hash_pool.specs.Answers.{IsPut}
 use Rattle.hash_pool.proofs.LodgeLemmas.{lodges_err, lodges_ok, lodges_fails, lodges_given}
-use Rattle.hash_pool.proofs.AnswerLemmas.{sha_of, same_of}
+use Rattle.hash_pool.proofs.AnswerLemmas.{sha_of, same_of, no_difference}
 use Rattle.hash_pool.proofs.lodging.put.Goals as goal
 
 pub returns-in_err-digests-clause-log : goal.returns-in_err-digests-clause-log
@@ -32,3 +32,11 @@ returns-clause-log g c =
     let given = same_of said bytes c.in_ok-digests.digests c.in_ok-digests.ensures.answer in
     GoesOn-map _ _ _ _ c.in_ok-lodge.ensures.log
     (λ l a h. lodges_ok Put said.sha256 c.args.stage.now c.lodge.new.stage tt c.in_ok-digests.digests l a (lodges_given (λ b. b ≡ bytes) said.sha256 Put given c.args.stage.now c.lodge.new.stage _ l a h))
+
+pub returns-in_err-lodge-clause-still : goal.returns-in_err-lodge-clause-still
+returns-in_err-lodge-clause-still g c differs =
+    absurd (differs (no_difference c.args.said.now c.args.bytes.now c.in_ok-digests.digests c.in_ok-digests.ensures.answer))
+
+pub returns-clause-still : goal.returns-clause-still
+returns-clause-still g c differs =
+    absurd (differs (no_difference c.args.said.now c.args.bytes.now c.in_ok-digests.digests c.in_ok-digests.ensures.answer))

@@ -5,17 +5,17 @@ use Rattle.ap_host.specs.Changes.{GoesOn}
 use Rattle.ap_host.proofs.ChangeLemmas.{GoesOn-map, GoesOn-none}
 use Rattle.machine_state.specs.State.{IsCatalogue}
 use Rattle.machine_state.specs.Values.{StateView}
-use Rattle.local_repo.specs.Arrival.{entries_arrive, list_in, list_of}
+use Rattle.local_repo.specs.Arrival.{cards_of, entries_arrive, list_in, list_of}
 use Rattle.local_repo.specs.Answers.{AddsAll, FaultGives}
 use Rattle.local_repo.specs.Fits.{FitsIn, Fitting}
 use Rattle.local_repo.proofs.AddLemmas.{listed_arrives, listed_fault, unlisted_fault, fault_comes, list_comes, fitting_fits, adds_list, adds_fails, adds_nothing, of_input}
 use Rattle.local_repo.proofs.arrive.add.Goals as goal
 
 pub returns-in_err-date-clause-log : goal.returns-in_err-date-clause-log
-returns-in_err-date-clause-log g c = GoesOn-none _ _ _ refl (λ l. adds_nothing _ _ c.from_residual.result _ l c.from_residual.ensures.0)
+returns-in_err-date-clause-log g c = GoesOn-none _ _ _ refl (λ l. adds_nothing _ _ _ c.from_residual.result _ l c.from_residual.ensures.0)
 
 pub returns-in_err-entries-clause-log : goal.returns-in_err-entries-clause-log
-returns-in_err-entries-clause-log g c = GoesOn-none _ _ _ refl (λ l. adds_nothing _ _ c.from_residual-in_err-entries.result _ l c.from_residual-in_err-entries.ensures.0)
+returns-in_err-entries-clause-log g c = GoesOn-none _ _ _ refl (λ l. adds_nothing _ _ _ c.from_residual-in_err-entries.result _ l c.from_residual-in_err-entries.ensures.0)
 
 pub returns-in_err-entries-clause-told : goal.returns-in_err-entries-clause-told
 returns-in_err-entries-clause-told g c valid small =
@@ -26,8 +26,8 @@ returns-in_err-entries-clause-told g c valid small =
 pub returns-in_err-list-clause-log : goal.returns-in_err-list-clause-log
 returns-in_err-list-clause-log g c =
     let known : c.state.inside.known ≡ c.args.state.now.known = ap (λ (s : StateView). s.known) c.state.view_is in
-    let log = subst₂ (λ m k. GoesOn (g.H.Host.log c.args.host.now) (g.H.Host.log c.take_entries.new.host) (AddsAll m k c.take_entries.result c.args.stage.now c.take_entries.new.stage)) c.in_ok-entries.ensures.map known c.take_entries.ensures.log in
-    GoesOn-map _ _ _ _ log (λ l a h. adds_fails _ _ c.take_entries.result c.from_residual-in_err-list.result _ _ l a c.from_residual-in_err-list.ensures.0 h)
+    let log = subst₂ (λ m k. GoesOn (g.H.Host.log c.args.host.now) (g.H.Host.log c.take_entries.new.host) (AddsAll m (cards_of c.in_ok-entries.entries.items) k c.take_entries.result c.args.stage.now c.take_entries.new.stage)) c.in_ok-entries.ensures.map known c.take_entries.ensures.log in
+    GoesOn-map _ _ _ _ log (λ l a h. adds_fails _ c.args.folder.now c.in_ok-entries.entries.items c.in_ok-entries.ensures.packages c.in_ok-entries.ensures.told _ c.take_entries.result c.from_residual-in_err-list.result _ _ l a c.from_residual-in_err-list.ensures.0 h)
 
 pub returns-in_err-list-clause-told : goal.returns-in_err-list-clause-told
 returns-in_err-list-clause-told g c valid small =
@@ -71,5 +71,5 @@ returns-clause-told g c valid small =
 pub returns-clause-log : goal.returns-clause-log
 returns-clause-log g c =
     let known : c.state.inside.known ≡ c.args.state.now.known = ap (λ (s : StateView). s.known) c.state.view_is in
-    let log = subst₂ (λ m k. GoesOn (g.H.Host.log c.args.host.now) (g.H.Host.log c.take_entries.new.host) (AddsAll m k (Ok c.in_ok-list.list) c.args.stage.now c.take_entries.new.stage)) c.in_ok-entries.ensures.map known c.in_ok-list.ensures.log in
-    GoesOn-map _ _ _ _ log (λ l a h. adds_list _ _ c.in_ok-list.list c.in_ok-date.date _ _ l a h)
+    let log = subst₂ (λ m k. GoesOn (g.H.Host.log c.args.host.now) (g.H.Host.log c.take_entries.new.host) (AddsAll m (cards_of c.in_ok-entries.entries.items) k (Ok c.in_ok-list.list) c.args.stage.now c.take_entries.new.stage)) c.in_ok-entries.ensures.map known c.in_ok-list.ensures.log in
+    GoesOn-map _ _ _ _ log (λ l a h. adds_list _ c.args.folder.now c.in_ok-entries.entries.items c.in_ok-entries.ensures.packages c.in_ok-entries.ensures.told _ c.in_ok-list.list c.in_ok-date.date _ _ l a h)

@@ -1,6 +1,8 @@
 use Rattle.std.proofs.Common.{◌≡◌, ◌+◌, ◌≤◌, List, [], ◌∷◌, ◌++◌, Ok, map, take, drop, refl, sym, ap, ◌∙◌, subst, subst₂, arith, All, IsSome, length, Result}
 use Rattle.std.proofs.lemmas.List.{map-append}
 use Rattle.std.proofs.lemmas.Result.{err_from_is_err_and}
+use Rattle.std.specs.List.{Contains}
+use Rattle.std.proofs.lemmas.List.Elements.{All-contains_itself}
 use Rattle.std.specs.Rc.{rc_value}
 use Rattle.std.specs.BTreeMap.{get}
 use Rattle.ap_text.specs.Paths.{below_folder}
@@ -24,16 +26,16 @@ use Rattle.local_repo.proofs.LogLemmas.{all_none, all_nothing, all_more, all_sto
 use Rattle.local_repo.proofs.arrive.take_all.Goals as goal
 
 pub returns-in_err-files-clause-log : goal.returns-in_err-files-clause-log
-returns-in_err-files-clause-log g c = GoesOn-none _ _ _ refl (λ l. all_nothing _ _ c.from_residual.result _ l c.from_residual.ensures.0)
+returns-in_err-files-clause-log g c = GoesOn-none _ _ _ refl (λ l. all_nothing _ _ _ c.from_residual.result _ l c.from_residual.ensures.0)
 
 pub returns-in_err-taken-clause-log : goal.returns-in_err-taken-clause-log
-returns-in_err-taken-clause-log g c = GoesOn-none _ _ _ refl (λ l. all_nothing _ _ c.from_residual-in_err-taken.result _ l c.from_residual-in_err-taken.ensures.0)
+returns-in_err-taken-clause-log g c = GoesOn-none _ _ _ refl (λ l. all_nothing _ _ _ c.from_residual-in_err-taken.result _ l c.from_residual-in_err-taken.ensures.0)
 
 pub loop-one-init : goal.loop-one-init
 loop-one-init g c =
     let none : map rc_value c.in_ok-taken.taken.items ≡ [] = ap (map rc_value) c.in_ok-taken.ensures.items in
     record {
-      log = GoesOn-none _ _ _ refl (λ l. all_none _ _ _ _ l none);
+      log = GoesOn-none _ _ _ refl (λ l. all_none _ _ _ _ _ l none);
       inbox_same = refl;
       later = omega arith;
       inbox_later = omega arith;
@@ -65,18 +67,21 @@ returns-in_err-next-clause-told g c catalogue short f told =
 
 pub returns-in_err-next-clause-log : goal.returns-in_err-next-clause-log
 returns-in_err-next-clause-log g c =
-    let log = subst (λ m. GoesOn (g.H.Host.log c.loop-one.host) (g.H.Host.log c.take_next.new.host) (AddsOne m (λ f. All (HasBody f) c.args.known.now) c.take_next.result c.loop-one.stage c.take_next.new.stage)) c.loop-one.invariant.inbox_same c.take_next.ensures.log in
-    GoesOn-then _ _ _ _ _ _ c.loop-one.invariant.log log (λ l a b h n. all_stops _ _ _ _ _ _ _ l a b h n c.from_residual-in_err-next.result c.from_residual-in_err-next.ensures.0)
+    let log = subst (λ m. GoesOn (g.H.Host.log c.loop-one.host) (g.H.Host.log c.take_next.new.host) (AddsOne m c.one-item.result.value (λ f. All (HasBody f) c.args.known.now) c.take_next.result c.loop-one.stage c.take_next.new.stage)) c.loop-one.invariant.inbox_same c.take_next.ensures.log in
+    let member = at_member rc_value (Contains c.args.list.now) c.as_slice-one-items.result.now c.args.list.now c.loop-one.one-index c.one-item.result c.as_slice-one-items.ensures (All-contains_itself c.args.list.now) c.loop-one-test.true c.one-item.is in
+    GoesOn-then _ _ _ _ _ _ c.loop-one.invariant.log log (λ l a b h n. all_stops _ _ _ _ c.one-item.result.value member _ _ _ _ l a b h n c.from_residual-in_err-next.result c.from_residual-in_err-next.ensures.0)
 
 pub returns-in_err-new-clause-log : goal.returns-in_err-new-clause-log
 returns-in_err-new-clause-log g c =
-    let log = subst (λ m. GoesOn (g.H.Host.log c.loop-one.host) (g.H.Host.log c.take_next.new.host) (AddsOne m (λ f. All (HasBody f) c.args.known.now) c.take_next.result c.loop-one.stage c.take_next.new.stage)) c.loop-one.invariant.inbox_same c.take_next.ensures.log in
-    GoesOn-then _ _ _ _ _ _ c.loop-one.invariant.log log (λ l a b h n. all_stops _ _ _ _ _ _ _ l a b h n c.from_residual-in_err-new.result c.from_residual-in_err-new.ensures.0)
+    let log = subst (λ m. GoesOn (g.H.Host.log c.loop-one.host) (g.H.Host.log c.take_next.new.host) (AddsOne m c.one-item.result.value (λ f. All (HasBody f) c.args.known.now) c.take_next.result c.loop-one.stage c.take_next.new.stage)) c.loop-one.invariant.inbox_same c.take_next.ensures.log in
+    let member = at_member rc_value (Contains c.args.list.now) c.as_slice-one-items.result.now c.args.list.now c.loop-one.one-index c.one-item.result c.as_slice-one-items.ensures (All-contains_itself c.args.list.now) c.loop-one-test.true c.one-item.is in
+    GoesOn-then _ _ _ _ _ _ c.loop-one.invariant.log log (λ l a b h n. all_stops _ _ _ _ c.one-item.result.value member _ _ _ _ l a b h n c.from_residual-in_err-new.result c.from_residual-in_err-new.ensures.0)
 
 pub returns-in_err-push-clause-log : goal.returns-in_err-push-clause-log
 returns-in_err-push-clause-log g c =
-    let log = subst (λ m. GoesOn (g.H.Host.log c.loop-one.host) (g.H.Host.log c.take_next.new.host) (AddsOne m (λ f. All (HasBody f) c.args.known.now) c.take_next.result c.loop-one.stage c.take_next.new.stage)) c.loop-one.invariant.inbox_same c.take_next.ensures.log in
-    GoesOn-then _ _ _ _ _ _ c.loop-one.invariant.log log (λ l a b h n. all_stops _ _ _ _ _ _ _ l a b h n c.from_residual-in_err-push.result c.from_residual-in_err-push.ensures.0)
+    let log = subst (λ m. GoesOn (g.H.Host.log c.loop-one.host) (g.H.Host.log c.take_next.new.host) (AddsOne m c.one-item.result.value (λ f. All (HasBody f) c.args.known.now) c.take_next.result c.loop-one.stage c.take_next.new.stage)) c.loop-one.invariant.inbox_same c.take_next.ensures.log in
+    let member = at_member rc_value (Contains c.args.list.now) c.as_slice-one-items.result.now c.args.list.now c.loop-one.one-index c.one-item.result c.as_slice-one-items.ensures (All-contains_itself c.args.list.now) c.loop-one-test.true c.one-item.is in
+    GoesOn-then _ _ _ _ _ _ c.loop-one.invariant.log log (λ l a b h n. all_stops _ _ _ _ c.one-item.result.value member _ _ _ _ l a b h n c.from_residual-in_err-push.result c.from_residual-in_err-push.ensures.0)
 
 pub loop-one-preserved : goal.loop-one-preserved
 loop-one-preserved g c =
@@ -90,9 +95,10 @@ loop-one-preserved g c =
     let ys : List Card = map rc_value c.loop-one.taken.items in
     let took : take (i + 1) (map rc_value items) ≡ take i (map rc_value items) ++ x ∷ [] = next_taken rc_value items i c.one-item.result c.loop-one-test.true c.one-item.is in
     let pushed : map rc_value c.push.new.self.items ≡ ys ++ q ∷ [] = ap (map rc_value) c.in_ok-push.ensures.items ∙ map-append rc_value c.loop-one.taken.items (c.in_ok-new.field-0 ∷ []) ∙ ap (λ (p : Card). ys ++ p ∷ []) c.in_ok-new.ensures.ok in
-    let log = subst (λ m. GoesOn (g.H.Host.log c.loop-one.host) (g.H.Host.log c.take_next.new.host) (AddsOne m (λ f. All (HasBody f) known) c.take_next.result c.loop-one.stage c.take_next.new.stage)) c.loop-one.invariant.inbox_same c.take_next.ensures.log in
+    let log = subst (λ m. GoesOn (g.H.Host.log c.loop-one.host) (g.H.Host.log c.take_next.new.host) (AddsOne m x (λ f. All (HasBody f) known) c.take_next.result c.loop-one.stage c.take_next.new.stage)) c.loop-one.invariant.inbox_same c.take_next.ensures.log in
+    let member = at_member rc_value (Contains c.args.list.now) items c.args.list.now i c.one-item.result c.as_slice-one-items.ensures (All-contains_itself c.args.list.now) c.loop-one-test.true c.one-item.is in
     record {
-      log = GoesOn-then _ _ _ _ _ _ c.loop-one.invariant.log log (λ l a b h n. subst (λ (zs : List Card). AddsAll (g.I.Inbox.map c.args.inbox.now) known (Ok zs) c.args.stage.now c.take_next.new.stage l (a ++ b)) (sym pushed) (all_more _ known ys c.take_next.result _ _ _ l a b h n q c.in_ok-next.was));
+      log = GoesOn-then _ _ _ _ _ _ c.loop-one.invariant.log log (λ l a b h n. subst (λ (zs : List Card). AddsAll (g.I.Inbox.map c.args.inbox.now) c.args.list.now known (Ok zs) c.args.stage.now c.take_next.new.stage l (a ++ b)) (sym pushed) (all_more _ c.args.list.now known ys x member c.take_next.result _ _ _ l a b h n q c.in_ok-next.was));
       inbox_same = c.take_next.ensures.map ∙ c.loop-one.invariant.inbox_same;
       later = omega (arith, c.loop-one.invariant.later, c.take_next.ensures.cause.later);
       inbox_later = omega (arith, c.loop-one.invariant.inbox_later, c.take_next.ensures.input.later);
@@ -123,4 +129,4 @@ returns-clause-taken g c catalogue good =
 
 pub returns-clause-log : goal.returns-clause-log
 returns-clause-log g c =
-    subst (λ (zs : List Card). GoesOn (g.H.Host.log c.args.host.now) (g.H.Host.log c.loop-one.host) (AddsAll (g.I.Inbox.map c.args.inbox.now) c.args.known.now (Ok zs) c.args.stage.now c.loop-one.stage)) (sym c.from_ascending.ensures) c.loop-one.invariant.log
+    subst (λ (zs : List Card). GoesOn (g.H.Host.log c.args.host.now) (g.H.Host.log c.loop-one.host) (AddsAll (g.I.Inbox.map c.args.inbox.now) c.args.list.now c.args.known.now (Ok zs) c.args.stage.now c.loop-one.stage)) (sym c.from_ascending.ensures) c.loop-one.invariant.log

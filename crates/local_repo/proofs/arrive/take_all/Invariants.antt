@@ -16,7 +16,7 @@ use Rattle.local_repo.proofs.arrive.take_all.Given as goal
 
 abbrev pub invariant-loop-one : goal.invariant-loop-one
 invariant-loop-one g l = record {
-  log : GoesOn (g.H.Host.log l.fn.host) (g.H.Host.log l.host) (AddsAll (g.I.Inbox.map l.fn.inbox) l.known (Ok (map rc_value l.taken.items)) l.fn.stage l.stage);
+  log : GoesOn (g.H.Host.log l.fn.host) (g.H.Host.log l.host) (AddsAll (g.I.Inbox.map l.fn.inbox) l.list l.known (Ok (map rc_value l.taken.items)) l.fn.stage l.stage);
   inbox_same : g.I.Inbox.map l.inbox ≡ g.I.Inbox.map l.fn.inbox;
   later : g.H.Host.faults l.fn.host ≤ g.H.Host.faults l.host;
   inbox_later : g.I.Inbox.faults l.fn.inbox ≤ g.I.Inbox.faults l.inbox;

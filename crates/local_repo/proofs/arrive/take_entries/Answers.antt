@@ -3,7 +3,7 @@ use Rattle.std.proofs.lemmas.Result.{err_from_is_err_and}
 use Rattle.std.specs.Option.{option_copied}
 use Rattle.std.specs.Rc.{rc_value}
 use Rattle.ap_host.proofs.ChangeLemmas.{GoesOn-map, GoesOn-none}
-use Rattle.std.specs.List.{AllByRecursion}
+use Rattle.std.specs.List.{AllByRecursion, Contains}
 use Rattle.package_core.specs.Card.{Card, IsPackage}
 use Rattle.package_core.specs.Whole.{IsSaid}
 use Rattle.machine_state.specs.declared.refusal.Refusal.{Refusal}
@@ -11,17 +11,22 @@ use Rattle.package_core.specs.Order.{package_cmp}
 use Rattle.package_list.specs.Sorted.{IsAscending}
 use Rattle.package_list.specs.Answers.{join_answer}
 use Rattle.machine_state.specs.declared.limit.Limit.TheVariants.{Packages}
-use Rattle.local_repo.specs.Arrival.{cards_of, entries_arrive, list_in, or_refused}
+use Rattle.local_repo.specs.Arrival.{Entry, cards_of, entries_arrive, list_in, or_refused}
 use Rattle.local_repo.specs.Answers.{FaultGives}
-use Rattle.local_repo.proofs.ArrivalLemmas.{There, joined_is, joined_ascending, joined_good, joined_paths, paths_there, paths_short, same_steps, join_fault, take_fault, check_fault, all_ok, told_err}
-use Rattle.local_repo.proofs.LogLemmas.{all_nothing, all_fails}
+use Rattle.local_repo.proofs.ArrivalLemmas.{There, joined_is, joined_among, joined_ascending, joined_good, joined_paths, paths_there, paths_short, same_steps, join_fault, take_fault, check_fault, all_ok, told_err}
+use Rattle.local_repo.proofs.LogLemmas.{all_nothing, all_fails, all_among}
 use Rattle.local_repo.proofs.arrive.take_entries.Goals as goal
 
+-- what was joined is among what the index says
+members : (entries : List Entry) (packages list : List Card) → packages ≡ cards_of entries → or_refused Packages (join_answer packages) ≡ Ok list → (p : Card) → Contains list p → Contains (cards_of entries) p
+members entries packages list cards joins p there =
+    joined_among entries p (subst (λ (ps : List Card). Contains ps p) (joined_is Packages (cards_of entries) list (ap (λ xs. or_refused Packages (join_answer xs)) (sym cards) ∙ joins)) there)
+
 pub returns-in_err-packages-clause-log : goal.returns-in_err-packages-clause-log
-returns-in_err-packages-clause-log g c = GoesOn-none _ _ _ refl (λ l. all_nothing _ _ c.from_residual.result _ l c.from_residual.ensures.0)
+returns-in_err-packages-clause-log g c = GoesOn-none _ _ _ refl (λ l. all_nothing _ _ _ c.from_residual.result _ l c.from_residual.ensures.0)
 
 pub returns-in_err-joined-clause-log : goal.returns-in_err-joined-clause-log
-returns-in_err-joined-clause-log g c = GoesOn-none _ _ _ refl (λ l. all_nothing _ _ c.from_residual-in_err-joined.result _ l c.from_residual-in_err-joined.ensures.0)
+returns-in_err-joined-clause-log g c = GoesOn-none _ _ _ refl (λ l. all_nothing _ _ _ c.from_residual-in_err-joined.result _ l c.from_residual-in_err-joined.ensures.0)
 
 pub returns-in_err-joined-clause-told : goal.returns-in_err-joined-clause-told
 returns-in_err-joined-clause-told g c catalogue small short f told =
@@ -74,7 +79,18 @@ returns-in_err-check-clause-told g c catalogue small short f told =
 
 pub returns-in_err-check-clause-log : goal.returns-in_err-check-clause-log
 returns-in_err-check-clause-log g c =
-    GoesOn-map _ _ _ _ c.in_ok-list.ensures.log (λ l a h. all_fails _ _ c.in_ok-list.list c.from_residual-in_err-check.result _ _ l a c.from_residual-in_err-check.ensures.0 h)
+    let within = members c.args.entries.items (map rc_value c.deref.result.now) c.in_ok-joined.joined (ap (map rc_value) c.deref.ensures.value ∙ c.in_ok-packages.ensures.packages) c.in_ok-joined.ensures.answer in
+    GoesOn-map _ _ _ _ c.in_ok-list.ensures.log (λ l a h. all_fails _ _ _ (Ok c.in_ok-list.list) c.from_residual-in_err-check.result _ _ l a c.from_residual-in_err-check.ensures.0 (all_among _ _ _ _ within (Ok c.in_ok-list.list) _ _ l a h))
+
+pub returns-in_err-list-clause-log : goal.returns-in_err-list-clause-log
+returns-in_err-list-clause-log g c =
+    let within = members c.args.entries.items (map rc_value c.deref.result.now) c.in_ok-joined.joined (ap (map rc_value) c.deref.ensures.value ∙ c.in_ok-packages.ensures.packages) c.in_ok-joined.ensures.answer in
+    GoesOn-map _ _ _ _ c.take_all.ensures.log (λ l a h. all_fails _ _ _ c.take_all.result c.from_residual-in_err-list.result _ _ l a c.from_residual-in_err-list.ensures.0 (all_among _ _ _ _ within c.take_all.result _ _ l a h))
+
+pub returns-clause-log : goal.returns-clause-log
+returns-clause-log g c =
+    let within = members c.args.entries.items (map rc_value c.deref.result.now) c.in_ok-joined.joined (ap (map rc_value) c.deref.ensures.value ∙ c.in_ok-packages.ensures.packages) c.in_ok-joined.ensures.answer in
+    GoesOn-map _ _ _ _ c.in_ok-list.ensures.log (λ l a h. all_among _ _ _ _ within (Ok c.in_ok-list.list) _ _ l a h)
 
 pub returns-clause-told : goal.returns-clause-told
 returns-clause-told g c catalogue small short f told =

@@ -3,6 +3,8 @@ use Rattle.digest_set.specs.Difference.{difference}
 use Rattle.package_core.specs.Card.{Card, completed}
 use Rattle.package_core.specs.Order.{package_cmp}
 use Rattle.local_repo.proofs.TakenLemmas.{completed_same}
+use Rattle.package_core.specs.Answers.{IsDifference}
+use Rattle.local_repo.proofs.FaultLemmas.{differs_own}
 use Rattle.local_repo.proofs.body.completed.Goals as goal
 
 pub returns-in-Ok-clause-same : goal.returns-in-Ok-clause-same
@@ -12,3 +14,8 @@ returns-in-Ok-clause-same c =
     let copied = c.in_ok-made.ensures in
     let agrees : difference p.said found ≡ None = ap (λ (x : Card). difference x.said found) (sym copied) ∙ c.in-Ok.ensures.agrees in
     subst (λ (q : Card). package_cmp p q ≡ Equal) (sym (c.in-Ok.ensures.ok ∙ ap (λ (x : Card). completed x found) copied)) (completed_same p found agrees)
+
+pub returns-in-Err-Differs-clause-fault : goal.returns-in-Err-Differs-clause-fault
+returns-in-Err-Differs-clause-fault c =
+    let differ = subst (IsDifference (difference c.in_ok-made.made.said c.args.found.now)) c.in-Err-Differs.field-0-is c.in-Err-Differs.ensures.differs in
+    differs_own c.args.path.now _ _ _ _ c.differs.ensures (c.in_ok-made.made.said, c.args.found.now, differ)

@@ -5,6 +5,7 @@ use Rattle.digest_set.specs.declared.facts.Digests.{Digests}
 use Rattle.hash_pool.specs.declared.fault.PoolFault.{PoolFault}
 use Rattle.ap_host.proofs.ChangeLemmas.{GoesOn-map}
 use Rattle.local_repo.proofs.LogLemmas.{made_of, fetched_adds}
+use Rattle.local_repo.proofs.FaultLemmas.{pool_any}
 use Rattle.local_repo.proofs.body.fetched.Goals as goal
 
 with_found : (out : Result Card UpdateFault) (p : Card) (r : Result Digests PoolFault) (found : Digests) (D : Type 0) → r ≡ Ok found → IfOk out (λ q. D × (q ≡ completed p found)) → IfOk out (λ q. (d : Digests) × (r ≡ Ok d) × (q ≡ completed p d))
@@ -21,3 +22,7 @@ returns-in-Ok-clause-log g c =
 pub returns-in-Err-clause-log : goal.returns-in-Err-clause-log
 returns-in-Err-clause-log g c =
     GoesOn-map _ _ _ _ c.take.ensures.log (λ l a h. fetched_adds _ c.args.path.now c.args.one.now c.take.result (Err c.of_pool.result) _ _ l a h tt)
+
+pub returns-in-Err-clause-fault : goal.returns-in-Err-clause-fault
+returns-in-Err-clause-fault g c =
+    pool_any c.args.path.now c.args.one.now.said c.in-Err.fault c.of_pool.result c.of_pool.ensures c.in-Err.ensures.compares

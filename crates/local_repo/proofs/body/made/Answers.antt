@@ -13,8 +13,8 @@ returns-in-Some-clause-log g c =
     let sha = c.args.one.now.said.sha256 in
     let k : Card = c.as_ref.result.now in
     let is : file_of c.args.files.now sha ≡ Some k = ap (option_map rc_value) (sym c.in-Some.ensures.value) ∙ ap Some (sym c.as_ref.ensures) in
-    GoesOn-none _ _ _ refl (λ l. nothing_adds _ (λ f. IfSome (file_of c.args.files.now sha) (HasBody f)) c.reused.result _ l (reuse_needs c.reused.result (file_of c.args.files.now sha) k _ is c.reused.ensures.body))
+    GoesOn-none _ _ _ refl (λ l. nothing_adds _ _ (λ f. IfSome (file_of c.args.files.now sha) (HasBody f)) c.reused.result _ l (reuse_needs c.reused.result (file_of c.args.files.now sha) k _ is c.reused.ensures.body))
 
 pub returns-in-None-clause-log : goal.returns-in-None-clause-log
 returns-in-None-clause-log g c =
-    GoesOn-map _ _ _ _ c.fetched.ensures.log (λ l a h. adds_on _ _ (λ f. IfSome (file_of c.args.files.now c.args.one.now.said.sha256) (HasBody f)) c.fetched.result c.fetched.result _ _ l a (λ n. tt) h (itself_on c.fetched.result _ (λ q n grown b. b)))
+    GoesOn-map _ _ _ _ c.fetched.ensures.log (λ l a h. adds_on _ _ _ (λ f. IfSome (file_of c.args.files.now c.args.one.now.said.sha256) (HasBody f)) c.fetched.result c.fetched.result _ _ l a (λ n. tt) h (itself_on c.fetched.result _ (λ q n grown b. b)))

@@ -20,7 +20,7 @@ returns-then-one-number-clause-told g c catalogue f told =
     tells_gives c.over.result _ _ c.over.ensures (taken_large f c.args.known.now c.args.path.now c.args.one.now large)
 
 pub returns-then-one-number-clause-log : goal.returns-then-one-number-clause-log
-returns-then-one-number-clause-log g c = GoesOn-none _ _ _ refl (λ l. nothing_adds _ _ (Err c.over.result) _ l tt)
+returns-then-one-number-clause-log g c = GoesOn-none _ _ _ refl (λ l. nothing_adds _ _ _ (Err c.over.result) _ l tt)
 
 pub returns-in_err-made-clause-told : goal.returns-in_err-made-clause-told
 returns-in_err-made-clause-told g c catalogue f told =
@@ -34,11 +34,11 @@ returns-in_err-made-clause-told g c catalogue f told =
 
 pub returns-in_err-made-clause-log : goal.returns-in_err-made-clause-log
 returns-in_err-made-clause-log g c =
-    GoesOn-map _ _ _ _ c.made.ensures.log (λ l a h. adds_on _ _ _ c.from_residual.result c.made.result _ _ l a (known_body c.args.known.now c.args.one.now.said.sha256 _ (live_of l) (c.requires.files c.args.one.now.said.sha256)) h (IfOk-from_err c.from_residual.result _ c.from_residual.ensures.0))
+    GoesOn-map _ _ _ _ c.made.ensures.log (λ l a h. adds_on _ _ _ _ c.from_residual.result c.made.result _ _ l a (known_body c.args.known.now c.args.one.now.said.sha256 _ (live_of l) (c.requires.files c.args.one.now.said.sha256)) h (IfOk-from_err c.from_residual.result _ c.from_residual.ensures.0))
 
 pub returns-in_err-stand-clause-log : goal.returns-in_err-stand-clause-log
 returns-in_err-stand-clause-log g c =
-    GoesOn-map _ _ _ _ c.made.ensures.log (λ l a h. adds_on _ _ _ c.from_residual-in_err-stand.result c.made.result _ _ l a (known_body c.args.known.now c.args.one.now.said.sha256 _ (live_of l) (c.requires.files c.args.one.now.said.sha256)) h (IfOk-from_err c.from_residual-in_err-stand.result _ c.from_residual-in_err-stand.ensures.0))
+    GoesOn-map _ _ _ _ c.made.ensures.log (λ l a h. adds_on _ _ _ _ c.from_residual-in_err-stand.result c.made.result _ _ l a (known_body c.args.known.now c.args.one.now.said.sha256 _ (live_of l) (c.requires.files c.args.one.now.said.sha256)) h (IfOk-from_err c.from_residual-in_err-stand.result _ c.from_residual-in_err-stand.ensures.0))
 
 pub returns-clause-told : goal.returns-clause-told
 returns-clause-told g c catalogue f told =
@@ -59,7 +59,7 @@ returns-clause-taken g c catalogue described said =
 pub returns-clause-log : goal.returns-clause-log
 returns-clause-log g c =
     let known = c.args.known.now in
-    GoesOn-map _ _ _ _ c.made.ensures.log (λ l a h. adds_on _ _ _ (Ok c.in_ok-stand.field-0) c.made.result _ _ l a (known_body known c.args.one.now.said.sha256 _ (live_of l) (c.requires.files c.args.one.now.said.sha256)) h
+    GoesOn-map _ _ _ _ c.made.ensures.log (λ l a h. adds_on _ _ _ _ (Ok c.in_ok-stand.field-0) c.made.result _ _ l a (known_body known c.args.one.now.said.sha256 _ (live_of l) (c.requires.files c.args.one.now.said.sha256)) h
     (c.in_ok-made.made, c.in_ok-made.was, λ all grown body. subst (HasBody (live_of (extended a l))) (sym c.in_ok-stand.ensures.value) (stands_body known c.in_ok-made.made l (extended a l) grown all body)))
 
 pub returns-clause-same : goal.returns-clause-same

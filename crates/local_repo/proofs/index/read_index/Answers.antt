@@ -1,8 +1,9 @@
-use Rattle.std.proofs.Common.{◌≡◌, ◌≤◌, Some, length, sym, ◌∙◌, arith}
+use Rattle.std.proofs.Common.{◌≡◌, ◌<◌, ◌≤◌, Some, length, sym, ◌∙◌, arith}
 use Rattle.std.specs.Option.{option_map}
 use Rattle.machine_state.specs.declared.limit.Limit.TheVariants.{Index}
 use Rattle.machine_state.specs.Limits.{limit_number}
 use Rattle.local_repo.proofs.IndexLemmas.{whole_index, read_full}
+use Rattle.local_repo.proofs.FaultLemmas.{ends_input, ends_early}
 use Rattle.local_repo.proofs.index.read_index.Goals as goal
 
 pub returns-then-len-size-clause-told : goal.returns-then-len-size-clause-told
@@ -16,3 +17,13 @@ returns-clause-told g c f e =
     let there : Some c.in-Some.size ≡ option_map length (f c.args.path.now) = sym c.in-Some.is ∙ c.in_ok-size.ensures.told f e in
     let le : c.in-Some.size ≤ limit_number Index = omega (arith, c.if-size-number.false, c.number.ensures) in
     whole_index c.args.path.now (f c.args.path.now) c.in-Some.size c.in_ok-bytes.bytes there le (c.in_ok-bytes.ensures.told f (c.in_ok-size.ensures.map ∙ e))
+
+pub returns-then-len-size-clause-fault : goal.returns-then-len-size-clause-fault
+returns-then-len-size-clause-fault g c =
+    let less : c.len-then-len-size.result < c.in-Some.size = omega (arith, c.if-len-size.true, c.len.ensures, c.len-then-len-size.ensures, c.in_ok-bytes.ensures.bound) in
+    ends_input c.args.path.now c.in-Some.size c.len-then-len-size.result _ less c.ends_early.ensures
+
+pub returns-then-len-size-clause-early : goal.returns-then-len-size-clause-early
+returns-then-len-size-clause-early g c =
+    let less : c.len-then-len-size.result < c.in-Some.size = omega (arith, c.if-len-size.true, c.len.ensures, c.len-then-len-size.ensures, c.in_ok-bytes.ensures.bound) in
+    ends_early c.args.path.now c.in-Some.size c.len-then-len-size.result _ less c.ends_early.ensures
