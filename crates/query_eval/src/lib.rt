@@ -3,6 +3,7 @@
 
 mod asked;
 mod class;
+mod copy;
 mod element;
 mod expression;
 mod fault;
