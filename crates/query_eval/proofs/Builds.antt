@@ -3,7 +3,6 @@ use Rattle.std.proofs.Common.{◌≡◌, ◌⊎◌, ℕ, List, Err, inl, inr, re
 use Rattle.std.specs.Str.{chars}
 use Rattle.regex.specs.Patterns.{default_config, Reads}
 use Rattle.regex.specs.Failures as failures
-use Rattle.regex.specs.declared.string.regex.Regex.{Regex}
 use Rattle.regex_syntax.specs.Grammar.{read}
 use Rattle.query_eval.specs.declared.patterns.PatternErr.{PatternErr}
 use Rattle.query_eval.specs.declared.patterns.PatternErr.TheVariants.{Syntax, Size, OutOfMemory}

@@ -4,6 +4,7 @@ use Rattle.std.specs.Str.{chars}
 use Rattle.std.proofs.lemmas.Bool.{and_parts}
 use Rattle.query_eval.specs.Glob.{Element, run, any_one, exactly, class, takes, IsOne, Pieces, Glob, elements_of}
 use Rattle.query_eval.specs.GlobReading.{covers, any_tail, Front, whole, star, fails, front, go_if}
+use Rattle.query_eval.specs.GlobSearch.{said}
 
 -- one element more
 pub front_takes : (e : Element) (es : List Element) (c : ℕ) (cs : List ℕ) → takes e c ≡ true → front (e ∷ es) (c ∷ cs) ≡ front es cs
@@ -24,17 +25,12 @@ front_ends any_one es n = refl
 front_ends (exactly d) es n = refl
 front_ends (class m ls) es n = refl
 
--- what a front says of the whole
-abbrev said : Front → Bool
-said whole = true
-said (star es cs) = any_tail (covers es) cs
-said fails = false
-
 said_if : (b : Bool) (f : Front) → said (go_if b f) ≡ (b && said f)
 said_if true f = refl
 said_if false f = refl
 
-covers_said : (es : List Element) (cs : List ℕ) → covers es cs ≡ said (front es cs)
+-- what a front says of the whole
+pub covers_said : (es : List Element) (cs : List ℕ) → covers es cs ≡ said (front es cs)
 covers_said [] [] = refl
 covers_said [] (c ∷ cs) = refl
 covers_said (run ∷ es) cs = refl
@@ -148,7 +144,7 @@ pub record TailCut (f : List ℕ → Bool) (cs : List ℕ) : Type 0 where
 more_cut : (f : List ℕ → Bool) (c : ℕ) (cs : List ℕ) → TailCut f cs → TailCut f (c ∷ cs)
 more_cut f c cs t = record { piece = c ∷ t.piece; rest = t.rest; split = ap (λ x. c ∷ x) t.split; holds = t.holds }
 
-tail_cut : (f : List ℕ → Bool) (cs : List ℕ) → any_tail f cs ≡ true → TailCut f cs
+pub tail_cut : (f : List ℕ → Bool) (cs : List ℕ) → any_tail f cs ≡ true → TailCut f cs
 tail_cut f [] h = record { piece = []; rest = []; split = refl; holds = h }
 tail_cut f (c ∷ cs) h =
     ⊎_elim (λ here. record { piece = []; rest = c ∷ cs; split = refl; holds = here }) (λ there. more_cut f c cs (tail_cut f cs there)) (or_parts (f (c ∷ cs)) (any_tail f cs) h)

@@ -1,5 +1,5 @@
 -- What a builder of regular expressions makes of a text, and how its count of refusals goes on.
-use Rattle.std.specs.Prelude.{◌≡◌, ◌⊎◌, List, ℕ, Option, Some, option_map, string_bytes, Result, Ok, Err, IfOk}
+use Rattle.std.specs.Prelude.{◌≡◌, ◌⊎◌, List, ℕ, Some, option_map, string_bytes, Result, Err, IfOk}
 use Rattle.regex.specs.declared.string.regex.Regex.{Regex}
 use Rattle.query_eval.specs.declared.patterns.PatternErr.{PatternErr}
 use Rattle.query_eval.specs.declared.patterns.PatternErr.TheVariants.{Syntax, Size, OutOfMemory}

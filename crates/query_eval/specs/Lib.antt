@@ -6,3 +6,4 @@ pub mod GlobViews
 pub mod Truth
 pub mod Conditions
 pub mod Preparing
+pub mod GlobSearch

@@ -1,7 +1,9 @@
 //! One regular expression of a query.
 
-ghost use Rattle.std.specs.Prelude.{◌≡◌, ◌⊎◌, ◌≤◌, IfOk, OnOk, Some};
-ghost use Rattle.query_eval.specs.Build.{IsNoPattern, Rose};
+ghost use Rattle.std.specs.Prelude.{◌≡◌, ◌⊎◌, ◌≤◌, IfOk, OnOk, MatchResult, Some};
+ghost use Rattle.regex.specs.Strings.{regex_source};
+ghost use Rattle.query_eval.specs.declared.patterns.PatternErr.TheVariants.{OutOfMemory};
+ghost use Rattle.query_eval.specs.Build.{IsNoPattern, IsReadFrom, Rose};
 ghost use Rattle.query_eval.specs.Conditions.{IsPattern};
 ghost use Rattle.query_eval.specs.Truth.{is_found};
 
@@ -9,11 +11,13 @@ use crate::patterns::{PatternErr, Patterns};
 use regex::Regex;
 use std::alloc::{AllocError, Global};
 use std::marker::Model;
+use std::rc::Rc;
 
-/// A regular expression, which is what the grammar reads in its text. Contracts see the text.
+/// A regular expression, which is what the grammar reads in its text. Its copies share what was built. Contracts see the
+/// text.
 #[derive(Drop)]
 pub(crate) struct Expression {
-    regex: Regex,
+    regex: Rc<Regex>,
 }
 
 impl Model for Expression {
@@ -23,14 +27,29 @@ impl Model for Expression {
 
     ghost Value = { List ℕ };
 
-    ghost view = { λ e. regex_source e.regex };
+    ghost view = { λ e. regex_source e.regex.value };
 
-    ghost invariant = { λ e. IsReadFrom (regex_source e.regex) e.regex };
+    ghost invariant = { λ e. IsReadFrom (regex_source e.regex.value) e.regex.value };
+}
+
+/// The expression that was built of its text.
+fn shared(alloc: Global, regex: Regex) -> Result<Expression, PatternErr>
+    requires { IsReadFrom (regex_source regex) regex }
+    ensures { MatchResult result (λ made. made ≡ regex_source regex) (λ error. error ≡ OutOfMemory) }
+{
+    match Rc::new(alloc, regex) {
+        Ok(regex) => Ok(Expression { regex }),
+        Err(_) => Err(PatternErr::OutOfMemory),
+    }
 }
 
 impl Expression {
     /// Has the expression built that a text is.
-    pub(crate) fn build<M: Patterns>(patterns: &mut M, text: &str) -> Result<Expression, PatternErr>
+    pub(crate) fn build<M: Patterns>(
+        alloc: Global,
+        patterns: &mut M,
+        text: &str,
+    ) -> Result<Expression, PatternErr>
         ensures same { IfOk result (λ made. made ≡ text.now) }
         ensures read { OnOk result (IsPattern text.now) }
         ensures syntax { result ≡ Err PatternErr.Syntax → IsNoPattern text.now }
@@ -40,9 +59,18 @@ impl Expression {
         ensures kept { (result ≡ Err PatternErr.Size) ⊎ (M.refused patterns.new ≡ M.refused patterns.old) }
     {
         match patterns.build(text) {
-            Ok(regex) => Ok(Expression { regex }),
+            Ok(regex) => shared(alloc, regex),
             Err(e) => Err(e),
         }
+    }
+
+    /// The same once more. Fails only for want of memory.
+    pub(crate) fn copy(&self) -> Result<Expression, AllocError>
+        ensures { IfOk result (λ made. made ≡ self.now) }
+    {
+        Ok(Expression {
+            regex: self.regex.clone()?,
+        })
     }
 
     /// Whether the expression is found somewhere in the value.

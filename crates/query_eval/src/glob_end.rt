@@ -33,6 +33,16 @@ impl<'p> GlobEnd<'p> {
         }
     }
 
+    /// The same end, looked through for the end of a class unless it is known to have none.
+    pub(crate) fn looked_through(self) -> GlobEnd<'p>
+        ensures { result.text.now ≡ self.entry.text.now }
+    {
+        if self.is_open {
+            return self;
+        }
+        GlobEnd::new(self.text)
+    }
+
     /// What follows a character that isn't `\\`.
     #[tactic(auto, using(crate::proofs::EndFacts::open_next))]
     pub(crate) fn behind(c: char, text: &'p str, is_open: bool) -> GlobEnd<'p>

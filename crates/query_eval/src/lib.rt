@@ -3,14 +3,17 @@
 
 mod asked;
 mod class;
+mod copy;
 mod element;
 mod expression;
 mod fault;
 mod field;
 mod glob;
 mod glob_end;
+mod last;
 mod laws;
 mod letter;
+mod literal;
 mod node;
 mod patterns;
 mod prepare;

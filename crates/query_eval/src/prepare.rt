@@ -17,7 +17,7 @@ use deb_version::{Relation, Version, copy_relation};
 use query_tree::{Query, Test};
 use std::alloc::{AllocError, Global};
 
-fn copy_arch(alloc: Global, arch: &Option<Name>) -> Result<Option<Name>, AllocError>
+pub(crate) fn copy_arch(alloc: Global, arch: &Option<Name>) -> Result<Option<Name>, AllocError>
     ensures { IfOk result (λ made. made ≡ arch.now) }
 {
     match arch {
@@ -26,7 +26,12 @@ fn copy_arch(alloc: Global, arch: &Option<Name>) -> Result<Option<Name>, AllocEr
     }
 }
 
-fn reference(alloc: Global, name: &Name, version: &Version, arch: &Name) -> Result<Node, AllocError>
+pub(crate) fn reference(
+    alloc: Global,
+    name: &Name,
+    version: &Version,
+    arch: &Name,
+) -> Result<Node, AllocError>
     ensures { IfOk result (λ made. node_tree made ≡ spec.reference name.now version.now arch.now) }
 {
     Ok(Node::Reference {
@@ -36,7 +41,7 @@ fn reference(alloc: Global, name: &Name, version: &Version, arch: &Name) -> Resu
     })
 }
 
-fn wanted(
+pub(crate) fn wanted(
     alloc: Global,
     name: &Name,
     relation: &Option<(Relation, Version)>,
@@ -53,6 +58,7 @@ fn wanted(
 
 /// Has the expression built of the `~` condition that follows so many others.
 fn expression<M: Patterns>(
+    alloc: Global,
     patterns: &mut M,
     text: &str,
     before: u64,
@@ -65,7 +71,7 @@ fn expression<M: Patterns>(
     let Some(number) = before.checked_add(1) else {
         return Err(EvalFault::OutOfMemory);
     };
-    match Expression::build(patterns, text) {
+    match Expression::build(alloc, patterns, text) {
         Ok(built) => Ok((Check::Pattern(built), number)),
         Err(PatternErr::Syntax) => Err(EvalFault::BadPattern(number)),
         Err(PatternErr::Size) => Err(EvalFault::PatternTooLarge(number)),
@@ -86,7 +92,7 @@ fn check<M: Patterns>(
     ensures prepares { Prepares before (pattern_of (Some (test, text.now))) (M.refusals patterns.old) (M.refusals patterns.new) (M.refused patterns.old) (M.refused patterns.new) result }
 {
     match test {
-        Test::Pattern => expression(patterns, text.as_str(), before),
+        Test::Pattern => expression(alloc, patterns, text.as_str(), before),
         Test::Glob => Ok((Check::Glob(text.copy(alloc)?), before)),
         Test::Less => Ok((
             Check::Compared(Relation::Earlier, text.copy(alloc)?),

@@ -57,6 +57,15 @@ impl Prepared {
         Ok(Prepared { node })
     }
 
+    /// The same query, prepared once more: the copy shares the regular expressions. Fails only for want of memory.
+    pub fn copy(&self, alloc: Global) -> Result<Prepared, AllocError>
+        ensures { IfOk result (λ made. made ≡ self.now) }
+    {
+        Ok(Prepared {
+            node: self.node.copy(alloc)?,
+        })
+    }
+
     /// Whether the query is true of the package. What the package provides is read once, and only where a condition asks
     /// for it. Fails only for want of memory.
     pub fn matches(&self, alloc: Global, candidate: &Package) -> Result<bool, AllocError>

@@ -1,4 +1,4 @@
-use Rattle.std.proofs.Common.{◌≡◌, ◌+◌, length}
+use Rattle.std.proofs.Common.{◌≡◌, length}
 use Rattle.std.specs.Str.{chars}
 use Rattle.query_eval.specs.Glob.{elements_of}
 use Rattle.query_eval.specs.GlobReading.{covers, any_tail}
@@ -6,12 +6,12 @@ use denote.Shadow.{shadow}
 use denote.Text.{Utf8}
 use Rattle.query_eval.proofs.glob.covers_some_end.Given as goal
 
-abbrev pub invariant-ends : goal.invariant-ends
-invariant-ends l = record {
+abbrev pub invariant-stars : goal.invariant-stars
+invariant-stars l = record {
   pattern_is : shadow (Utf8 l.pattern.text.now);
   text_is : shadow (Utf8 l.left);
   same : any_tail (covers (elements_of (chars l.pattern.text.now))) (chars l.left) ≡ any_tail (covers (elements_of (chars l.fn.pattern.text.now))) (chars l.text);
 }
 
-abbrev pub decreases-ends : goal.decreases-ends
-decreases-ends l = length l.pattern.text.now + length l.left
+abbrev pub decreases-stars : goal.decreases-stars
+decreases-stars l = length l.pattern.text.now
