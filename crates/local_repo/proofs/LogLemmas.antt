@@ -26,7 +26,7 @@ use Rattle.hash_pool.proofs.NameLemmas.{law_of_pool_names, pooled_not_staged, na
 use Rattle.hash_pool.proofs.GrowthLemmas.{law_of_growth, grows_none, grows_whole}
 use Rattle.machine_state.specs.declared.arrived.UpdateFault.{UpdateFault}
 use Rattle.local_repo.specs.Arrival.{compared, agreed, known_of, standing}
-use Rattle.local_repo.specs.Bodies.{HasBody, IsMet, DigestsApart}
+use Rattle.hash_pool.specs.Bodies.{HasBody, IsMet, DigestsApart}
 use Rattle.local_repo.specs.Answers.{Gives, Fills, AddsOne, AddsAll}
 use Rattle.local_repo.proofs.ListLemmas.{by_places, each_of, found_holds}
 use Rattle.local_repo.proofs.TakenLemmas.{find_holds}
