@@ -1,5 +1,5 @@
 -- From the opening and the run to the whole call.
-use Rattle.std.proofs.Common.{◌≡◌, ◌⊎◌, inl, inr, List, ℕ, Bool, true, false, [], ◌∷◌, ◌++◌, take, drop, Option, Some, None, option_map, codes, arith, IsFalse, Result, Ok, Err, OnOk, refl, sym, ◌∙◌, ap, subst, append-nil}
+use Rattle.std.proofs.Common.{◌≡◌, ◌⊎◌, inl, inr, List, ℕ, Bool, true, false, [], ◌∷◌, ◌++◌, take, drop, Option, Some, None, option_map, codes, IsTrue, IsFalse, Result, Ok, Err, OnOk, refl, sym, ◌∙◌, ap, subst, append-nil}
 use Rattle.std.specs.Bool.{if◌then◌else◌}
 use Rattle.std.proofs.lemmas.List.{take-append-drop}
 use Rattle.ap_host.specs.declared.host.Op.{Op}
@@ -17,8 +17,8 @@ use Rattle.run_model.proofs.Joins.{said-append}
 use Rattle.run_model.proofs.Openings.{first, live_first, durable_first, sets_never, opened_none, opened_claimed, opened_more, opened_whole}
 use Rattle.run_model.proofs.Opens.{opened_then_ran, broke_opening, begun}
 use Rattle.run_model.proofs.Says.{image_said, live_said}
-use Rattle.aptly_core.specs.declared.catalogue_root.LoadFault.{LoadFault}
-use Rattle.aptly_core.specs.declared.catalogue_root.LoadFault.TheVariants as faults
+use Rattle.catalogue_root.specs.declared.damage.LoadFault.{LoadFault}
+use Rattle.catalogue_root.specs.declared.damage.LoadFault.TheVariants as faults
 use Rattle.command_words.specs.Plain.{PlainCommand, db_cleanup}
 use Rattle.command_words.specs.Commands as words_spell
 use Rattle.command_words.specs.Commands.{IsUsagePlace}
@@ -30,18 +30,30 @@ use Rattle.machine_state.specs.Values.{StateView}
 use Rattle.machine_step.specs.Step.{Given}
 use Rattle.reply_text.specs.Refusals.{usage_line}
 use Rattle.machine_state.specs.declared.refusal.Refusal.{Refusal}
-use Rattle.aptly_core.specs.declared.status.Damage.{Damage}
+use Rattle.catalogue_root.specs.declared.damage.Damage.{Damage}
 use Rattle.aptly_core.specs.declared.status.Status.{Status}
 use Rattle.aptly_core.specs.declared.status.Status.TheVariants.{Done, Refused, Usage, HostFault, InboxFault, OutOfMemory, Damaged, Busy}
 use Rattle.aptly_core.specs.Calls.{asked, GotClaim, CallTo, Called, CalledWith, TellsUsage, SaysUsage, IsSaid, IsRunAnswer, IsDamagedAnswer, IsUsageAnswer, LawOfWords, LawOfEmptyStore}
-use Rattle.aptly_core.specs.Machine.{Apart, machine, store, IsWork, IsOpening, Opening, Sets}
-use Rattle.aptly_core.specs.Opens.{OpensTo, status_of_load, RunsClaimed, IsFault, IsSettling, IsClaimedStatus, IsDamagedOrFault}
+use Rattle.aptly_core.specs.Machine.{machine, IsWork, IsOpening, Opening}
+use Rattle.aptly_core.specs.Opens.{status_of_load, RunsClaimed, IsFault, IsClaimedStatus, IsDamagedOrFault}
 use Rattle.aptly_core.specs.Runs.{RanAs, RanTo, RunsList, EndsWith, IsEnd, IsRunStatus}
-use Rattle.aptly_core.specs.Store.{Sound, SoundForNone, IsDamage, Open, RootApart, BodiesApart}
+use Rattle.catalogue_root.specs.Commits.{Sets}
+use Rattle.catalogue_root.specs.Loads.{IsDamage, RootApart}
+use Rattle.catalogue_root.specs.Opens.{IsSettling, OpensTo}
+use Rattle.catalogue_root.specs.Store.{Sound, SoundForNone, Open, store}
+use Rattle.catalogue_root.proofs.FitLemmas.{open_stored}
+use Rattle.catalogue_root.proofs.LoadLemmas.{empty_open, sound_once, stored_sound}
+use Rattle.catalogue_root.proofs.SettleLemmas.{settling_each, settling_quiet, settling_target}
 use Rattle.aptly_core.proofs.Lawful.{lawful}
-use Rattle.aptly_core.proofs.LoadLemmas.{empty_valid, sound_once, stored_sound}
 use Rattle.aptly_core.proofs.RunLemmas.{words_each, say_words, apart_along}
-use Rattle.aptly_core.proofs.SettleLemmas.{settling_each, settling_work, settling_quiet, settling_target}
+use Rattle.aptly_core.specs.Apart.{Apart, BodiesApart}
+
+-- what settles a store is work
+is_work : (p : Path) → IsTrue (is_staged p) → IsWork (Remove p)
+is_work p is = search
+
+settling_work : (a : List Op) → EachOp IsSettling a → EachOp IsWork a
+settling_work a each = settling_each IsWork is_work tt a each
 
 fault_or : (status : Status) → IsFault status → IsDamagedOrFault status
 fault_or HostFault is = tt
@@ -69,7 +81,7 @@ claimed_damaged given Told cs d l a w = record {
   damaged = λ e is. let one : d ≡ e = cc in (w.damaged d refl, λ apart. let x = w.loads apart in (x.0, subst (λ (y : Damage). IsDamage (live_of l) y) one x.1));
   none = λ none. tt;
   refused = λ q e. absurd (cc);
-  went = λ s durable stands apart. absurd ((w.loads apart.texts).0 s (stored_sound (live_of l) s stands.stored));
+  went = λ s durable stands apart. absurd ((w.loads apart.texts).0 s (stored_sound (live_of l) s (open_stored (live_of l) s stands)));
 }
 
 -- no state was given
@@ -99,7 +111,7 @@ claimed_ran given Told cs status state st l a b valid is comes w y = record {
     λ s sound apart. subst (λ (x : StateView). EndsWith given Told x cs status) (sound_once (live_of l) state s apart w.loads sound) (comes valid),
   );
   went = λ s durable stands apart.
-      let same : state ≡ s = sound_once (live_of l) state s apart.texts w.loads (stored_sound (live_of l) s stands.stored) in
+      let same : state ≡ s = sound_once (live_of l) state s apart.texts w.loads (stored_sound (live_of l) s (open_stored (live_of l) s stands)) in
       inr (record {
         opening = a;
         rest = b;
@@ -159,7 +171,7 @@ module _ (given : Given) (Told : Option (List ℕ) → Type 0) (told : Told None
   apart_first = subst (λ (m : Files). Apart given m s cs) (sym (live_first l)) apart
 
   not_damaged : (d : Damage) → status ≡ Damaged d → ⊥
-  not_damaged d e = ((w.damaged d e).1 apart_first.texts).0 s (stored_sound (live_of (extended first l)) s stands.stored)
+  not_damaged d e = ((w.damaged d e).1 apart_first.texts).0 s (stored_sound (live_of (extended first l)) s (open_stored (live_of (extended first l)) s stands))
 
   call_claimed : (k : Option (List ℕ)) × Told k × CallTo given k l s t cs status (Claim true ∷ Barrier ∷ b)
   call_claimed = elim (w.went s (durable_first l) stands apart_first) [
@@ -382,10 +394,7 @@ law_of_words l s t ops entry each = (
 
 -- a store with no file holds the empty state
 pub law_of_empty_store : LawOfEmptyStore
-law_of_empty_store = begun store (λ path. None) empty (record {
-  stored = record { valid = empty_valid; root = inr (refl, refl); bodies = λ k d lt. absurd (omega (arith, lt)); named = λ p bytes is e. absurd (cc) };
-  public = λ q is. refl;
-})
+law_of_empty_store = begun store (λ path. None) empty empty_open
 
 -- ---- what the words ask for
 asked_from : (words : List (List ℕ)) (cs : List PlainCommand) → words_spell.commands words ≡ Some cs → (b : Bool) → words_spell.is_first (codes "demo") words ≡ b → asked words ≡ Some (if b then db_cleanup ∷ [] else cs)

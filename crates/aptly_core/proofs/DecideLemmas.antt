@@ -27,7 +27,7 @@ use Rattle.machine_state.specs.Ascending as ascending
 use Rattle.machine_state.specs.State.{Valid, repo_cmp}
 use Rattle.machine_state.specs.Values.{StateView}
 use Rattle.local_repo.specs.Answers.{IsArrival, Comes, Adds, IfList, Fills}
-use Rattle.local_repo.specs.Bodies.{HasBody, IsMet, DigestsApart}
+use Rattle.hash_pool.specs.Bodies.{HasBody, IsMet, DigestsApart}
 use Rattle.reply_text.specs.Refusals.{refusal_line}
 use Rattle.reply_text.specs.Replies as replies
 use Rattle.ap_text.specs.Paths.{is_safe_path}
@@ -41,7 +41,8 @@ use Rattle.machine_step.specs.declared.outcome.Reading.TheVariants as readings
 use Rattle.machine_step.specs.Step.{Given, Came, refused, new_repo, taken_in, done, came_to, MayArrive, MayArriveFor, StepWith, Step}
 use Rattle.aptly_core.specs.declared.fault.RunFault.{RunFault}
 use Rattle.aptly_core.specs.Arrives.{Arrives, ArrivesFor, Decides, arrived_of, list_in}
-use Rattle.aptly_core.specs.Store.{BodiesApart, Stored}
+use Rattle.aptly_core.specs.Apart.{BodiesApart}
+use Rattle.catalogue_root.specs.Store.{Stored}
 
 -- ---- nothing was read
 apart_none : (input : Option Files) (l : Log) → BodiesApart input (live_of l) → BodiesApart input (live_of (extended [] l))

@@ -22,6 +22,7 @@ use Rattle.local_repo.proofs.EntryLemmas.{listed_packages}
 use Rattle.local_repo.proofs.LawLemmas.{arrives_fit}
 use Rattle.local_repo.proofs.TotalLemmas.{some_arrives}
 use Rattle.machine_step.proofs.LawLemmas.{Fit, Some_arrives, says_step, valid_step, total_step}
+use Rattle.catalogue_root.proofs.FitLemmas.{open_serves}
 use Rattle.aptly_core.specs.Machine.{machine, came, Steps}
 
 -- what arrives fits, and of each folder something arrives
@@ -93,10 +94,10 @@ total given k s c valid = total_step arrives given k s c
 
 pub lawful : (given : Given) → Lawful (machine given)
 lawful given = record {
-  store = record { opens = λ f s settled. settled; settled_serves = λ f s settled. settled.public; serves = λ f s t served. served };
+  store = record { opens = λ f s settled. settled; settled_serves = λ f s settled. open_serves f s s s settled; serves = λ f s t served. served };
   replies = says given;
   plain = plain given;
   keeps = keeps given;
   total = λ k s c valid. let w = total given k s c valid in (outcome_of w.0, w.1);
-  valid = λ f s stands. stands.stored.valid;
+  valid = λ f s stands. stands.valid;
 }

@@ -1,12 +1,7 @@
-mod CommitLemmas
-mod ReadyLemmas
-mod SettleLemmas
 mod GrowLemmas
 mod Lawful
 mod RunLemmas
-mod SaveLemmas
 mod ListLemmas
-mod OpenLemmas
 mod CallLemmas
-mod LoadLemmas
 mod DecideLemmas
+mod CauseLemmas

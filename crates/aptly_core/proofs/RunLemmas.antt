@@ -1,6 +1,7 @@
 -- One command: files are taken in, the new state is committed, and then the reply is said.
 use Rattle.std.proofs.Common.{◌≡◌, ◌⊎◌, inl, inr, ℕ, List, [], ◌∷◌, ◌++◌, take, drop, All, Option, Some, None, IsTrue, IsSome, IfSome, Result, Ok, Err, OnOk, unwrap_or, refl, sym, ◌∙◌, ap, subst, append-nil, append_assoc}
 use Rattle.std.proofs.lemmas.List.{take-append-drop}
+use Rattle.std.specs.List.{AllByRecursion}
 use Rattle.ap_host.specs.declared.host.Op.{Op}
 use Rattle.ap_host.specs.declared.host.Op.TheVariants.{Create, Append, Sync, Rename, Remove, Barrier, Say, Claim}
 use Rattle.ap_host.specs.declared.host.HostErr.{HostErr}
@@ -21,7 +22,7 @@ use Rattle.stage_file.proofs.StageLemmas.{live_step_of}
 use Rattle.hash_pool.specs.Names.{is_pooled}
 use Rattle.hash_pool.specs.Growth.{PoolGrows, IsOnce, targets}
 use Rattle.hash_pool.proofs.NameLemmas.{pooled_not_staged, not_both}
-use Rattle.hash_pool.proofs.GrowthLemmas.{targets-append}
+use Rattle.hash_pool.proofs.GrowthLemmas.{targets-append, law_of_growth}
 use Rattle.machine_state.specs.declared.refusal.Refusal.{Refusal}
 use Rattle.machine_state.specs.State.{Valid}
 use Rattle.machine_state.specs.Values.{StateView}
@@ -29,32 +30,36 @@ use Rattle.machine_step.specs.declared.outcome.Outcome.{Outcome as Made}
 use Rattle.machine_step.specs.Early.{folder_read}
 use Rattle.machine_step.specs.Step.{Given}
 use Rattle.machine_step.specs.Answers.{IsNew}
-use Rattle.local_repo.specs.Bodies.{HasBody, IsMet}
+use Rattle.hash_pool.specs.Bodies.{HasBody, IsMet}
 use Rattle.aptly_core.specs.declared.fault.RunFault.{RunFault}
 use Rattle.aptly_core.specs.Arrives.{Decides}
-use Rattle.aptly_core.specs.Commits.{IsCommitting, MayCommit, Saves}
-use Rattle.aptly_core.specs.Machine.{machine, store, Steps, IsWork, IsIdle, IsRemoval, SaysAtMost, is_below_one, AreTargets, Sets, Moves}
+use Rattle.aptly_core.specs.Machine.{machine, Steps, IsWork, IsIdle, IsRemoval, SaysAtMost, is_below_one, AreTargets, Moves}
 use Rattle.aptly_core.specs.Runs.{MayRun, RunsOne}
-use Rattle.aptly_core.specs.Store.{root, BodiesApart}
-use Rattle.aptly_core.proofs.CommitLemmas.{sets_before, rest_valid}
-use Rattle.aptly_core.proofs.GrowLemmas.{taking_each, taking_quiet, taking_work, taking_idle, taking_sets, once_all, targets_all, grown_rest, grown_to, here}
+use Rattle.aptly_core.proofs.GrowLemmas.{taking_work, taking_idle, taking_sets, once_all, targets_all}
 use Rattle.aptly_core.proofs.Lawful.{lawful, keeps}
+use Rattle.aptly_core.specs.Apart.{BodiesApart}
+use Rattle.catalogue_root.specs.Commits.{IsTarget, IsCommitting, MayCommit, Saves, Sets}
+use Rattle.catalogue_root.specs.Store.{root, store}
+use Rattle.catalogue_root.proofs.CommitLemmas.{rest_valid, committing_targets}
+use Rattle.catalogue_root.proofs.FitLemmas.{open_stored, bodies_of}
+use Rattle.catalogue_root.proofs.GrowLemmas.{taking_each, grown_rest, grown_to, here}
+use Rattle.catalogue_root.proofs.SaveLemmas.{saving_commits, saving_nothing}
 
-pub committing_quiet : (a : List Op) → EachOp IsCommitting a → said a ≡ []
-committing_quiet [] each = refl
-committing_quiet (Create q ∷ a) each = committing_quiet a each.1
-committing_quiet (Append q b ∷ a) each = committing_quiet a each.1
-committing_quiet (Sync q ∷ a) each = committing_quiet a each.1
-committing_quiet (Rename x y ∷ a) each = committing_quiet a each.1
-committing_quiet (Barrier ∷ a) each = committing_quiet a each.1
-committing_quiet (Remove q ∷ a) each = absurd each.0
-committing_quiet (Say b ∷ a) each = absurd each.0
-committing_quiet (Claim b ∷ a) each = absurd each.0
+pub committing_quiet : (l : Log) (a : List Op) → EachOp (IsCommitting l) a → said a ≡ []
+committing_quiet l [] each = refl
+committing_quiet l (Create q ∷ a) each = committing_quiet l a each.1
+committing_quiet l (Append q b ∷ a) each = committing_quiet l a each.1
+committing_quiet l (Sync q ∷ a) each = committing_quiet l a each.1
+committing_quiet l (Rename x y ∷ a) each = committing_quiet l a each.1
+committing_quiet l (Barrier ∷ a) each = committing_quiet l a each.1
+committing_quiet l (Remove q ∷ a) each = absurd each.0
+committing_quiet l (Say b ∷ a) each = absurd each.0
+committing_quiet l (Claim b ∷ a) each = absurd each.0
 
-pub committing_work : (a : List Op) → EachOp IsCommitting a → EachOp IsWork a
-committing_work a each = EachOp-map IsCommitting IsWork one a each
+pub committing_work : (l : Log) (a : List Op) → EachOp (IsCommitting l) a → EachOp IsWork a
+committing_work l a each = EachOp-map (IsCommitting l) IsWork one a each
   where
-    one : (op : Op) → IsCommitting op → IsWork op
+    one : (op : Op) → IsCommitting l op → IsWork op
     one (Create q) w = w
     one (Append q b) w = w
     one (Sync q) w = w
@@ -101,10 +106,10 @@ most_words reply b (inr some) = subst (EachOp IsWord) (sym some.2) (tt, tt)
 pub none_removed : (l : Log) (p : List Op) → PoolGrows l p → EachOp (λ op. ¬ IsRemoval op) p
 none_removed l p grows = taking_each l (λ op. ¬ IsRemoval op) (λ q is no. no) (λ q b w no. no) (λ q is no. no) (λ a b w no. no) p grows.kinds
 
-committing_removes : (a : List Op) → EachOp IsCommitting a → EachOp (λ op. ¬ IsRemoval op) a
-committing_removes a each = EachOp-map IsCommitting (λ op. ¬ IsRemoval op) one a each
+committing_removes : (l : Log) (a : List Op) → EachOp (IsCommitting l) a → EachOp (λ op. ¬ IsRemoval op) a
+committing_removes l a each = EachOp-map (IsCommitting l) (λ op. ¬ IsRemoval op) one a each
   where
-    one : (op : Op) → IsCommitting op → ¬ IsRemoval op
+    one : (op : Op) → IsCommitting l op → ¬ IsRemoval op
     one (Remove q) w gone = absurd w
     one (Create q) w gone = gone
     one (Append q b) w gone = gone
@@ -121,14 +126,14 @@ say_words bytes r b d = part_each IsWord (Say bytes) b (λ o is. elim is [ inl e
 abbrev pub Ends : Path → Type 0
 Ends p = IsTrue (is_staged p) ⊎ (p ≡ root)
 
-committing_live_one : (q : Path) → IsTrue (is_pooled q) → (op : Op) (l : Log) → IsCommitting op → live_of (extended (op ∷ []) l) q ≡ live_of l q
-committing_live_one q is op l w = go op w
+committing_live_one : (k : Log) (q : Path) → IsTrue (is_pooled q) → (op : Op) (l : Log) → IsCommitting k op → live_of (extended (op ∷ []) l) q ≡ live_of l q
+committing_live_one k q is op l w = go op w
   where
     not : ¬ Ends q
     not (inl staged) = not_both (is_staged q) staged (pooled_not_staged q is)
     not (inr at) = absurd (let no = subst (λ (x : Path). IsTrue (is_pooled x)) at is in cc)
 
-    go : (o : Op) → IsCommitting o → live_of (extended (o ∷ []) l) q ≡ live_of l q
+    go : (o : Op) → IsCommitting k o → live_of (extended (o ∷ []) l) q ≡ live_of l q
     go (Create p) w = (same_after Ends l (Create p ∷ []) (inl w, tt)).live q not
     go (Append p b) w = (same_after Ends l (Append p b ∷ []) (inl w.0, tt)).live q not
     go (Sync p) w = (same_after Ends l (Sync p ∷ []) (inl w, tt)).live q not
@@ -138,10 +143,10 @@ committing_live_one q is op l w = go op w
     go (Say b) w = absurd w
     go (Claim b) w = absurd w
 
-pub committing_live : (q : Path) → IsTrue (is_pooled q) → (a : List Op) (l : Log) → EachOp IsCommitting a → live_of (extended a l) q ≡ live_of l q
-committing_live q is [] l each = ap (λ (x : Log). live_of x q) (extended-none l)
-committing_live q is (op ∷ a) l each =
-    ap (λ (x : Log). live_of x q) (sym (extended-append (op ∷ []) a l)) ∙ committing_live q is a (extended (op ∷ []) l) each.1 ∙ committing_live_one q is op l each.0
+pub committing_live : (k : Log) (q : Path) → IsTrue (is_pooled q) → (a : List Op) (l : Log) → EachOp (IsCommitting k) a → live_of (extended a l) q ≡ live_of l q
+committing_live k q is [] l each = ap (λ (x : Log). live_of x q) (extended-none l)
+committing_live k q is (op ∷ a) l each =
+    ap (λ (x : Log). live_of x q) (sym (extended-append (op ∷ []) a l)) ∙ committing_live k q is a (extended (op ∷ []) l) each.1 ∙ committing_live_one k q is op l each.0
 
 -- what is told apart where the pool is as it was
 pub apart_along : (input : Option Files) (f g : Files) → ((q : Path) → IsTrue (is_pooled q) → g q ≡ f q) → BodiesApart input f → BodiesApart input g
@@ -160,22 +165,22 @@ said_durable : (l : Log) (bytes : List ℕ) → Durable l → Durable (extended 
 said_durable l bytes durable p x may =
     durable p x (subst (λ (d : Disk). d.may p x) (disk_of-step (Say bytes) l) may) ∙ sym (live_step_of l (Say bytes) p)
 
-pub saved_said : (p a : List Op) (l : Log) → said p ≡ [] → EachOp IsCommitting a → (reply : List ℕ) (b : List Op) → b ≡ Say reply ∷ [] → said ((p ++ a) ++ b) ≡ reply
-saved_said p a l quiet only reply b is =
-    said-append (p ++ a) b ∙ ap (λ (t : List ℕ). t ++ said b) (said-append p a ∙ ap (λ (t : List ℕ). t ++ said a) quiet ∙ committing_quiet a only) ∙ ap said is ∙ append-nil reply
+pub saved_said : (k : Log) (p a : List Op) → said p ≡ [] → EachOp (IsCommitting k) a → (reply : List ℕ) (b : List Op) → b ≡ Say reply ∷ [] → said ((p ++ a) ++ b) ≡ reply
+saved_said k p a quiet only reply b is =
+    said-append (p ++ a) b ∙ ap (λ (t : List ℕ). t ++ said b) (said-append p a ∙ ap (λ (t : List ℕ). t ++ said a) quiet ∙ committing_quiet k a only) ∙ ap said is ∙ append-nil reply
 
-pub saved_work : {U : Type 0} (l : Log) (p a : List Op) → PoolGrows l p → EachOp IsCommitting a → (reply : List ℕ) (v : Result U HostErr) (b : List Op) → Did (Say reply) v b → EachOp IsWork ((p ++ a) ++ b)
-saved_work l p a grows only reply v b did = EachOp-append IsWork (p ++ a) b (EachOp-append IsWork p a (taking_work l p grows.kinds) (committing_work a only)) (words_each IsWork (λ x. tt) b (say_words reply v b did))
+pub saved_work : {U : Type 0} (l k : Log) (p a : List Op) → PoolGrows l p → EachOp (IsCommitting k) a → (reply : List ℕ) (v : Result U HostErr) (b : List Op) → Did (Say reply) v b → EachOp IsWork ((p ++ a) ++ b)
+saved_work l k p a grows only reply v b did = EachOp-append IsWork (p ++ a) b (EachOp-append IsWork p a (taking_work l p grows.kinds) (committing_work k a only)) (words_each IsWork (λ x. tt) b (say_words reply v b did))
 
-pub taken_work : (l : Log) (p a : List Op) → PoolGrows l p → EachOp IsCommitting a → EachOp IsWork (p ++ a)
-taken_work l p a grows only = EachOp-append IsWork p a (taking_work l p grows.kinds) (committing_work a only)
+pub taken_work : (l k : Log) (p a : List Op) → PoolGrows l p → EachOp (IsCommitting k) a → EachOp IsWork (p ++ a)
+taken_work l k p a grows only = EachOp-append IsWork p a (taking_work l p grows.kinds) (committing_work k a only)
 
 -- a command broke off before its outcome
 pub broke_taking : (given : Given) (l : Log) (s : StateView) (c : PlainCommand) (p : List Op) → PoolGrows l p → (folder_read s c ≡ None → p ≡ []) → AtRest store s l → Ran (machine given) None l s (c ∷ []) None p
 broke_taking given l s c p grows nothing rest = ran_begun (machine given) (lawful given) None l s c p (grown_to s l p grows rest s) (record {
   work = taking_work l p grows.kinds;
   once = grows.once;
-  targets = subst (AreTargets l) (append-nil (targets p)) (targets_all l p [] grows (inl refl));
+  targets = subst (AreTargets l) (append-nil (targets p)) (targets_all l p [] grows tt);
   refused = tt;
   unchanged = tt;
   quiet = nothing;
@@ -184,24 +189,29 @@ broke_taking given l s c p grows nothing rest = ran_begun (machine given) (lawfu
 
 module _ (given : Given) (k : Option (List ℕ)) (l : Log) (s : StateView) (c : PlainCommand) (o : Outcome StateView Refusal) (step : Steps given k s c o) (new : Option StateView) (is : o.state ≡ unwrap_or new s) (kept : IsSome o.refusal → new ≡ None) (fresh : IsNew s new)
     {T : Type 0} (p : List Op) (taken : PoolGrows l p) (nothing : folder_read s c ≡ None → p ≡ []) (before now : StageState) (r : Result T HostErr) (a : List Op) (saves : Saves s new before now r (extended p l) a) where
+  only : EachOp (IsCommitting (extended p l)) a
+  only = saving_commits new (extended p l) a saves.only
+
   -- without a word more, or with some
   moves : (b : List Op) → SaysAtMost o.reply b → Moves l s c (Some o) ((p ++ a) ++ b)
   moves b most =
       let words = most_words o.reply b most in
-      let once = sets_before a b saves.targets (words_target b words) in
+      let own : targets (a ++ b) ≡ targets a = targets-append a b ∙ ap (λ (x : List Path). targets a ++ x) (words_target b words) ∙ append-nil (targets a) in
+      let once = subst IsOnce (sym own) saves.once in
+      let are = subst (AllByRecursion (IsTarget l)) (sym own) (committing_targets (extended p l) a only) in
       let all : targets ((p ++ a) ++ b) ≡ targets p ++ targets (a ++ b) = ap targets (append_assoc p a b) ∙ targets-append p (a ++ b) in
       record {
-        work = EachOp-append IsWork (p ++ a) b (taken_work l p a taken saves.only) (words_each IsWork (λ x. tt) b words);
-        once = subst IsOnce (sym all) (once_all l p (targets (a ++ b)) taken once);
-        targets = subst (AreTargets l) (sym all) (targets_all l p (targets (a ++ b)) taken once);
-        refused = λ some. EachOp-append (IsIdle l) (p ++ a) b (EachOp-append (IsIdle l) p a (taking_idle l p taken.kinds) (subst (EachOp (IsIdle l)) (sym (saves.nothing (kept some))) tt)) (words_each (IsIdle l) (λ x. tt) b words);
+        work = EachOp-append IsWork (p ++ a) b (taken_work l (extended p l) p a taken only) (words_each IsWork (λ x. tt) b words);
+        once = subst IsOnce (sym all) (once_all l l p (targets (a ++ b)) taken once are);
+        targets = subst (AreTargets l) (sym all) (targets_all l p (targets (a ++ b)) taken are);
+        refused = λ some. EachOp-append (IsIdle l) (p ++ a) b (EachOp-append (IsIdle l) p a (taking_idle l p taken.kinds) (subst (EachOp (IsIdle l)) (sym (saving_nothing new (extended p l) a (kept some) saves.only)) tt)) (words_each (IsIdle l) (λ x. tt) b words);
         unchanged = λ same. EachOp-append (λ op. ¬ Sets op) (p ++ a) b (EachOp-append (λ op. ¬ Sets op) p a (taking_sets l p taken.kinds) (calm new refl same)) (words_each (λ op. ¬ Sets op) (λ x no. no) b words);
         quiet = λ none same. subst (SaysAtMost o.reply) (sym (ap (λ (x : List Op). (x ++ a) ++ b) (nothing none) ∙ ap (λ (x : List Op). x ++ b) (still new refl same))) most;
-        removes = λ no. EachOp-append (λ op. ¬ IsRemoval op) (p ++ a) b (EachOp-append (λ op. ¬ IsRemoval op) p a (none_removed l p taken) (committing_removes a saves.only)) (words_each (λ op. ¬ IsRemoval op) (λ x no. no) b words);
+        removes = λ no. EachOp-append (λ op. ¬ IsRemoval op) (p ++ a) b (EachOp-append (λ op. ¬ IsRemoval op) p a (none_removed l p taken) (committing_removes (extended p l) a only)) (words_each (λ op. ¬ IsRemoval op) (λ x no. no) b words);
       }
     where
       still : (n : Option StateView) → new ≡ n → o.state ≡ s → a ≡ []
-      still None e same = saves.nothing e
+      still None e same = saving_nothing new (extended p l) a e saves.only
       still (Some t) e same = absurd (subst (IsNew s) e fresh (sym (is ∙ ap (λ (x : Option StateView). unwrap_or x s) e) ∙ same))
 
       calm : (n : Option StateView) → new ≡ n → o.state ≡ s → EachOp (λ op. ¬ Sets op) a
@@ -236,11 +246,11 @@ module _ (given : Given) (l : Log) (s : StateView) (c : PlainCommand) (before mi
   ready = record {
     rest = grown_rest s l p decides.grows may.rest;
     step = decides.step may.step;
-    next = record { valid = next; bodies = go out.state refl (decides.bodies (rest_valid s l may.rest) (here s l p decides.grows may.rest).stored may.apart) };
+    next = record { valid = next; bodies = go out.state refl (decides.bodies (rest_valid s l may.rest) (open_stored (live_of l) s (here s l p decides.grows may.rest)) may.apart) };
   }
     where
       go : (n : Option StateView) → out.state ≡ n → IfSome out.state (λ t. All (HasBody (live_of (extended p l))) t.known) → All (HasBody (live_of (extended p l))) (unwrap_or out.state s).known
-      go None e w = subst (λ (x : Option StateView). All (HasBody (live_of (extended p l))) (unwrap_or x s).known) (sym e) ((grown_rest s l p decides.grows may.rest) (live_of (extended p l)) (law_of_live_image (extended p l))).stored.bodies
+      go None e w = subst (λ (x : Option StateView). All (HasBody (live_of (extended p l))) (unwrap_or x s).known) (sym e) (bodies_of s (live_of (extended p l)) ((grown_rest s l p decides.grows may.rest) (live_of (extended p l)) (law_of_live_image (extended p l))).fits)
       go (Some t) e w = subst (λ (x : Option StateView). All (HasBody (live_of (extended p l))) (unwrap_or x s).known) (sym e) (subst (λ (x : Option StateView). IfSome x (λ t. All (HasBody (live_of (extended p l))) t.known)) e w)
 
   module _ {T : Type 0} (now : StageState) (r : Result T HostErr) (a : List Op) (saves : Saves s out.state mid now r (extended p l) a) where
@@ -259,7 +269,7 @@ module _ (given : Given) (l : Log) (s : StateView) (c : PlainCommand) (before mi
     all_on v e reply b told rest = record {
       rest = rest;
       step = λ clean. subst Durable whole (said_durable (extended a (extended p l)) reply (on r e (saves.step ready) clean));
-      apart = apart_along given.inbox (live_of (extended p l)) (live_of (extended ((p ++ a) ++ b) l)) (λ q is. ap (λ (x : Log). live_of x q) (sym whole) ∙ live_step_of (extended a (extended p l)) (Say reply) q ∙ committing_live q is a (extended p l) saves.only) (decides.apart may.apart);
+      apart = apart_along given.inbox (live_of (extended p l)) (live_of (extended ((p ++ a) ++ b) l)) (λ q is. ap (λ (x : Log). live_of x q) (sym whole) ∙ live_step_of (extended a (extended p l)) (Say reply) q ∙ committing_live (extended p l) q is a (extended p l) (saving_commits out.state (extended p l) a saves.only)) (decides.apart may.apart);
     }
       where
         whole : extended (Say reply ∷ []) (extended a (extended p l)) ≡ extended ((p ++ a) ++ b) l
@@ -289,10 +299,10 @@ decided_then_saved given s c before mid now out r l p a d w = record { taken = p
 pub runs_ok : {T : Type 0} (given : Given) (Told : Option (List ℕ) → Type 0) (s : StateView) (c : PlainCommand) (before mid now : StageState) (out : Made) (v : T) (r : Result T HostErr) → r ≡ Ok v → (k : Valid s → (large : Option (List ℕ)) × Told large × Steps given large s c (made s out)) → (IsSome out.refusal → out.state ≡ None) → (Valid s → IsNew s out.state)
     → (l : Log) (ops b : List Op) → Decided given s c before mid now out r l ops → b ≡ Say out.reply ∷ [] → {U : Type 0} (x : Result U HostErr) → Did (Say out.reply) x b → RunsOne given Told s c before now (Ok (unwrap_or out.state s, out.refusal)) l (ops ++ b)
 runs_ok given Told s c before mid now out v r ok comes kept fresh l ops b x told y did = subst (λ (z : List Op). RunsOne given Told s c before now (Ok (unwrap_or out.state s, out.refusal)) l (z ++ b)) x.cut (record {
-  work = saved_work l p a d.grows w.only out.reply y b did;
+  work = saved_work l (extended p l) p a d.grows (saving_commits out.state (extended p l) a w.only) out.reply y b did;
   says = λ valid.
       let step = comes valid in
-      (step.0, step.1, subst (λ (t : List ℕ). Steps given step.0 s c (record { reply = t; refusal = out.refusal; state = unwrap_or out.state s })) (sym (saved_said p a l (taking_quiet l p d.grows.kinds) w.only out.reply b told)) step.2);
+      (step.0, step.1, subst (λ (t : List ℕ). Steps given step.0 s c (record { reply = t; refusal = out.refusal; state = unwrap_or out.state s })) (sym (saved_said (extended p l) p a (law_of_growth.quiet l p d.grows) (saving_commits out.state (extended p l) a w.only) out.reply b told)) step.2);
   ran = λ may. let step = comes (valid may) in (step.0, step.1, done may step.0 step.2);
   on = λ may. let step = comes (valid may) in all_on given l s c before mid out p d may (next may) now r a w v ok out.reply b told (done may step.0 step.2).ends.3;
 })

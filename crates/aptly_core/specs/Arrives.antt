@@ -16,10 +16,11 @@ use Rattle.machine_step.specs.declared.outcome.Outcome.{Outcome}
 use Rattle.machine_step.specs.declared.outcome.Reading.{Reading}
 use Rattle.machine_step.specs.declared.outcome.Reading.TheVariants as readings
 use Rattle.local_repo.specs.Answers.{IsArrival}
-use Rattle.local_repo.specs.Bodies.{HasBody}
+use Rattle.hash_pool.specs.Bodies.{HasBody}
 use Rattle.aptly_core.specs.declared.fault.RunFault.{RunFault}
 use Rattle.aptly_core.specs.declared.fault.RunFault.TheVariants.{HostFault, InboxFault, OutOfMemory}
-use Rattle.aptly_core.specs.Store.{BodiesApart, Stored}
+use Rattle.aptly_core.specs.Apart.{BodiesApart}
+use Rattle.catalogue_root.specs.Store.{Stored}
 
 -- a refusal of what was read has arrived too
 abbrev pub arrived_of : Result Arrived UpdateFault → Result Arrived RunFault

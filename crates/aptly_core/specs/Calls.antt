@@ -13,13 +13,15 @@ use Rattle.machine_state.specs.declared.refusal.Refusal.{Refusal}
 use Rattle.machine_state.specs.State.{empty}
 use Rattle.machine_step.specs.Step.{Given}
 use Rattle.reply_text.specs.Refusals.{usage_line}
-use Rattle.aptly_core.specs.declared.status.Damage.{Damage}
+use Rattle.catalogue_root.specs.declared.damage.Damage.{Damage}
 use Rattle.aptly_core.specs.declared.status.Status.{Status}
 use Rattle.aptly_core.specs.declared.status.Status.TheVariants.{Done, Refused, Usage, HostFault, InboxFault, OutOfMemory, Damaged, Busy}
-use Rattle.aptly_core.specs.Machine.{Place, Apart, machine, store, IsWork}
+use Rattle.aptly_core.specs.Machine.{Place, machine, IsWork}
 use Rattle.aptly_core.specs.Opens.{IsDamagedOrFault}
 use Rattle.aptly_core.specs.Runs.{EndsWith, SaysRefusal}
-use Rattle.aptly_core.specs.Store.{IsDamage, Sound, SoundForNone, Stored, RootApart}
+use Rattle.aptly_core.specs.Apart.{Apart}
+use Rattle.catalogue_root.specs.Loads.{IsDamage, RootApart}
+use Rattle.catalogue_root.specs.Store.{store, Sound, SoundForNone, Stored}
 
 -- Nothing, or a claim that wasn't got and nothing more, or one that was got and then no other. Behind it files are written
 -- below `stage/` alone, in pieces of at most 65,536 bytes, and renamed from there.
@@ -110,10 +112,6 @@ pub record CalledWith (words : List (List ℕ)) (given : Given) (Told : Option (
   -- complete: want of memory alone is free
   pub answers : (commands : List PlainCommand) → asked words ≡ Some commands → ¬ HostRose → ¬ InboxRose → GotClaim ops → (s t : Place) → Entry store l s t → Apart given (live_of l) s commands → IsRunAnswer status
   pub damaged : (commands : List PlainCommand) → asked words ≡ Some commands → ¬ HostRose → GotClaim ops → SoundForNone (live_of l) → IsDamagedAnswer status
-
--- files hold one state at most
-abbrev pub LawOfStoredStates : Type 0
-LawOfStoredStates = (files : Files) (s t : Place) → RootApart files → Stored files s → Stored files t → s ≡ t
 
 -- Calls of commands hand over. Where the next begins hangs on the store alone: it may be given another inbox and another moment.
 abbrev pub LawOfHandOver : Type 0

@@ -1,8 +1,8 @@
 pub mod Status
-pub mod Store
+pub mod Apart
 pub mod Machine
-pub mod Commits
 pub mod Arrives
 pub mod Runs
 pub mod Opens
 pub mod Calls
+pub mod Causes

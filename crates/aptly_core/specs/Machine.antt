@@ -1,12 +1,12 @@
--- The machine of the program: what files stand for which state, and what the operations of a command keep to.
+-- The machine of the program: what the operations of a command keep to.
 use Rattle.std.specs.Prelude.{◌≡◌, ◌⊎◌, ℕ, ◌≤◌, ◌||◌, Bool, List, [], ◌∷◌, length, Option, None, MatchOption, false, IsTrue, IsSome, IfSome, codes}
 use Rattle.ap_text.specs.Paths.{is_below}
 use Rattle.ap_host.specs.declared.host.Op.{Op}
 use Rattle.ap_host.specs.declared.host.Op.TheVariants.{Create, Append, Sync, Rename, Remove, Barrier, Say, Claim}
-use Rattle.ap_host.specs.Disk.{Path, Files, Log, live_of}
+use Rattle.ap_host.specs.Disk.{Path, Log, live_of}
 use Rattle.ap_host.specs.Changes.{EachOp}
 use Rattle.command_words.specs.Plain.{PlainCommand}
-use Rattle.run_model.specs.Run.{Outcome, Store, Machine, IsFront}
+use Rattle.run_model.specs.Run.{Outcome, Machine, IsFront}
 use Rattle.stage_file.specs.Stage.{is_staged}
 use Rattle.hash_pool.specs.Names.{is_pooled}
 use Rattle.hash_pool.specs.Growth.{targets, IsOnce}
@@ -15,7 +15,8 @@ use Rattle.machine_state.specs.State.{Valid}
 use Rattle.machine_state.specs.Values.{StateView}
 use Rattle.machine_step.specs.Early.{folder_read, is_to_remove}
 use Rattle.machine_step.specs.Step.{Given, Step, Came}
-use Rattle.aptly_core.specs.Store.{BodiesApart, NothingPublic, Open, RootApart, root}
+use Rattle.catalogue_root.specs.Commits.{IsTarget, Sets}
+use Rattle.catalogue_root.specs.Store.{store}
 
 -- What the machine goes from and to. So far it is the state alone; a map of files that commands look at would stand beside it.
 abbrev pub Place : Type 0
@@ -30,11 +31,6 @@ Steps given large state command o = Step given large state command (came o)
 
 abbrev pub is_below_one : Path → Bool
 is_below_one path = is_below (codes "db") path || is_pooled path || is_below (codes "public") path
-
--- the operation sets the root
-abbrev pub Sets : Op → Type 0
-Sets (Rename a b) = b ≡ root
-Sets _ = ⊥
 
 -- An operation of a command. Files are written in the folder of staged files alone, in pieces of at most 65,536 bytes, and
 -- renamed from there.
@@ -70,10 +66,10 @@ IsRemoval _ = ⊥
 abbrev pub SaysAtMost : List ℕ → List Op → Type 0
 SaysAtMost reply ops = (ops ≡ []) ⊎ ((part : List ℕ) × IsFront part reply × (ops ≡ Say part ∷ []))
 
--- each is the root, or a pool file that wasn't there
+-- each is one that a commit sets, or a pool file that wasn't there
 abbrev pub AreTargets : Log → List Path → Type 0
 AreTargets l [] = Unit {0}
-AreTargets l (p ∷ ps) = ((p ≡ root) ⊎ (IsTrue (is_pooled p) × (live_of l p ≡ None))) × AreTargets l ps
+AreTargets l (p ∷ ps) = (IsTarget l p ⊎ (IsTrue (is_pooled p) × (live_of l p ≡ None))) × AreTargets l ps
 
 -- what the operations of one command keep to, from the log at its start on
 pub record Moves (l : Log) (state : Place) (command : PlainCommand) (outcome : Option (Outcome Place Refusal)) (ops : List Op) : Type 0 where
@@ -93,21 +89,6 @@ pub record Opening (l : Log) (state : Place) (ops : List Op) : Type 0 where
   pub kinds : EachOp IsOpening ops
   pub once : IsOnce (targets ops)
 
--- no staged file is there
-abbrev pub NoneStaged : Files → Type 0
-NoneStaged files = (q : Path) → IsTrue (is_staged q) → files q ≡ None
-
--- What files stand for. Nothing is published so far, so what is open is settled too, and clients are served by any store with
--- no public file.
-abbrev pub store : Store Place
-store = record { Open = Open; Settled = Open; Served = λ files s t. NothingPublic files; Clean = NoneStaged }
-
 -- the machine of a call that is given this
 abbrev pub machine : Given → Machine (Option (List ℕ)) Place PlainCommand Refusal
 machine given = record { Valid = Valid; Step = Steps given; store = store; Sets = Sets; Moves = Moves; Opening = Opening }
-
--- What is told apart where a call of these commands begins for this state: the package texts in the root, and the files of the pool
--- and of the inbox, which tells them. The states that the commands lead to have no file of their own that could be confused.
-pub record Apart (given : Given) (files : Files) (state : Place) (commands : List PlainCommand) : Type 0 where
-  pub texts : RootApart files
-  pub bodies : BodiesApart given.inbox files

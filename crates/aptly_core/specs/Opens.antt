@@ -1,4 +1,4 @@
--- What the opening of a store adds to the log.
+-- What a call that has the store adds to the log: the opening, and the commands.
 use Rattle.std.specs.Prelude.{◌≡◌, ◌⊎◌, ℕ, Bool, true, false, List, [], ◌∷◌, ◌++◌, Option, None, Result, Ok, Err, OnOk, IsTrue, IsFalse}
 use Rattle.ap_host.specs.declared.host.Op.{Op}
 use Rattle.ap_host.specs.declared.host.Op.TheVariants.{Remove, Barrier, Claim}
@@ -10,42 +10,16 @@ use Rattle.run_model.specs.Run.{Keeps, Ready, ServesOn}
 use Rattle.stage_file.specs.Stage.{is_staged}
 use Rattle.machine_state.specs.declared.refusal.Refusal.{Refusal}
 use Rattle.machine_step.specs.Step.{Given}
-use Rattle.aptly_core.specs.declared.catalogue_root.LoadFault.{LoadFault}
-use Rattle.aptly_core.specs.declared.catalogue_root.LoadFault.TheVariants.{Damaged, HostFault, OutOfMemory}
-use Rattle.aptly_core.specs.declared.status.Damage.{Damage}
+use Rattle.catalogue_root.specs.declared.damage.LoadFault.{LoadFault}
+use Rattle.catalogue_root.specs.declared.damage.LoadFault.TheVariants.{Damaged, HostFault, OutOfMemory}
+use Rattle.catalogue_root.specs.declared.damage.Damage.{Damage}
 use Rattle.aptly_core.specs.declared.status.Status.{Status}
 use Rattle.aptly_core.specs.declared.status.Status.TheVariants as statuses
-use Rattle.aptly_core.specs.Machine.{Place, Apart, store, IsWork}
+use Rattle.aptly_core.specs.Machine.{Place, IsWork}
 use Rattle.aptly_core.specs.Runs.{EndsWith, RanTo, SaysRefusal}
-use Rattle.aptly_core.specs.Store.{Open, Sound, SoundForNone, IsDamage, MayLoad, RootApart}
-
--- a claim, and the first barrier where it was got
-abbrev pub Enters : Result Bool HostErr → List Op → Type 0
-Enters (Ok true) ops = ops ≡ Claim true ∷ Barrier ∷ []
-Enters (Ok false) ops = ops ≡ Claim false ∷ []
-Enters (Err error) ops = (ops ≡ []) ⊎ (ops ≡ Claim true ∷ [])
-
--- an operation of the settling, which removes staged files
-abbrev pub IsSettling : Op → Type 0
-IsSettling (Remove p) = IsTrue (is_staged p)
-IsSettling Barrier = Unit {0}
-IsSettling _ = ⊥
-
--- All staged files are removed, and nothing else. Where what reads give is durable and stands for a state, it goes on to stand for
--- it, and at the end it is durable again and commands may begin.
-pub record SettlesTo {T E : Type 0} (result : Result T E) (l : Log) (ops : List Op) : Type 0 where
-  pub only : EachOp IsSettling ops
-  pub keeps : (s : Place) → Durable l → Open (live_of l) s → Keeps store s l ops
-  pub serves : (s : Place) → Durable l → Open (live_of l) s → ServesOn store s l ops
-  pub ready : (s : Place) → Durable l → Open (live_of l) s → OnOk result (Ready store s (extended ops l))
-  pub durable : Durable l → OnOk result (Durable (extended ops l))
-  pub same : (q : Path) → IsFalse (is_staged q) → live_of (extended ops l) q ≡ live_of l q
-
--- a store was loaded, and then settled; a damaged one was left as it was
-pub record OpensTo (result : Result Place LoadFault) (l : Log) (ops : List Op) : Type 0 where
-  pub settles : SettlesTo result l ops
-  pub loads : MayLoad (live_of l) result
-  pub damaged : (damage : Damage) → result ≡ Err (Damaged damage) → ops ≡ []
+use Rattle.aptly_core.specs.Apart.{Apart}
+use Rattle.catalogue_root.specs.Loads.{IsDamage, MayLoad, RootApart}
+use Rattle.catalogue_root.specs.Store.{store, Open, Sound, SoundForNone}
 
 -- how a call ends whose store gave no state
 abbrev pub status_of_load : LoadFault → Status

@@ -17,8 +17,9 @@ use Rattle.aptly_core.specs.declared.fault.RunFault.{RunFault}
 use Rattle.aptly_core.specs.declared.fault.RunFault.TheVariants.{HostFault, InboxFault, OutOfMemory}
 use Rattle.aptly_core.specs.declared.status.Status.{Status}
 use Rattle.aptly_core.specs.declared.status.Status.TheVariants as statuses
-use Rattle.aptly_core.specs.Machine.{Place, machine, store, Steps, IsWork}
-use Rattle.aptly_core.specs.Store.{BodiesApart}
+use Rattle.aptly_core.specs.Machine.{Place, machine, Steps, IsWork}
+use Rattle.aptly_core.specs.Apart.{BodiesApart}
+use Rattle.catalogue_root.specs.Store.{store}
 
 -- the fault of a run whose host gave this error
 abbrev pub of_host : HostErr → RunFault

@@ -1,5 +1,5 @@
-//! Laws of calls and of stores. Each function does nothing, and has the law as its contract.
-ghost use Rattle.aptly_core.specs.Calls.{LawOfEmptyStore, LawOfHandOver, LawOfStoredStates, LawOfWords};
+//! Laws of calls. Each function does nothing, and has the law as its contract.
+ghost use Rattle.aptly_core.specs.Calls.{LawOfEmptyStore, LawOfHandOver, LawOfWords};
 
 /// A call may be stopped at any moment, or end: the next one may begin on what it left, at the state after the commands that
 /// were answered or one more. So no answered command is ever lost, in any list of calls.
@@ -16,9 +16,4 @@ pub fn calls_that_say_hand_over()
 /// The first call of all may begin on a store that has no file.
 pub fn calls_begin_on_nothing()
     ensures { LawOfEmptyStore }
-{}
-
-/// Files hold one state at most, where no two package texts in the root share a SHA-256.
-pub fn stored_states_are_equal()
-    ensures { LawOfStoredStates }
 {}

@@ -2,16 +2,14 @@
 //! whatever moment a call is stopped at, the store stands for the state after some first commands.
 #![tactic(auto)]
 
-pub mod catalogue_root;
 mod decide;
 mod fault;
 mod laws;
 mod run;
 mod status;
 
+pub use catalogue_root::{Damage, stored_states_are_equal};
 pub use fault::RunFault;
-pub use laws::{
-    calls_begin_on_nothing, calls_hand_over, calls_that_say_hand_over, stored_states_are_equal,
-};
+pub use laws::{calls_begin_on_nothing, calls_hand_over, calls_that_say_hand_over};
 pub use run::{aptly, run_one};
-pub use status::{Damage, Status};
+pub use status::Status;

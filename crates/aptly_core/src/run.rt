@@ -1,5 +1,5 @@
 //! Runs of commands over a store.
-ghost use Rattle.std.specs.Prelude.{◌≡◌, ◌≢◌, ◌≤◌, ℕ, List, Option, IfOk, IfErr, OnOk, Err, map, codes};
+ghost use Rattle.std.specs.Prelude.{◌≡◌, ◌≢◌, ◌≤◌, ℕ, List, ◌∷◌, Option, IfOk, IfErr, OnOk, Err, map, codes};
 ghost use Rattle.ap_host.specs.declared.host.HostErr.TheVariants as HostErr;
 ghost use Rattle.ap_host.specs.Calls.{CauseOf, HasCause, Rose};
 ghost use Rattle.ap_host.specs.Changes.{GoesOn};
@@ -7,48 +7,33 @@ ghost use Rattle.command_words.specs.Commands as spelled;
 ghost use Rattle.command_words.specs.Commands.{IsUsagePlace, is_first};
 ghost use Rattle.command_words.specs.Fault.{IsAt};
 ghost use Rattle.command_words.specs.Plain.{PlainCommand, plain};
+ghost use Rattle.machine_state.specs.declared.refusal.Refusal.TheVariants.{BadPattern, NotBuilt, PatternTooLarge};
 ghost use Rattle.machine_state.specs.State.{Valid};
 ghost use Rattle.machine_step.specs.Answers.{IsTold};
+ghost use Rattle.query_eval.specs.Build.{IsNoPattern};
 ghost use Rattle.machine_step.specs.Step.{giving};
 ghost use Rattle.aptly_core.specs.declared.fault.RunFault.TheVariants.{HostFault, InboxFault};
 ghost use Rattle.aptly_core.specs.declared.status.Status.TheVariants as Status;
-ghost use Rattle.aptly_core.specs.declared.catalogue_root.LoadFault.TheVariants as LoadFault;
-ghost use Rattle.aptly_core.specs.declared.status.Damage.{Damage};
-ghost use Rattle.aptly_core.specs.Commits.{Saves};
+ghost use Rattle.catalogue_root.specs.declared.damage.LoadFault.TheVariants as LoadFault;
+ghost use Rattle.catalogue_root.specs.declared.damage.Damage.{Damage};
+ghost use Rattle.catalogue_root.specs.Loads.{IsDifference};
 ghost use Rattle.aptly_core.specs.Calls.{asked, Called, CalledWith, IsUsageAnswer, SaysUsage, TellsUsage};
-ghost use Rattle.aptly_core.specs.Opens.{Enters, SettlesTo, OpensTo, RunsClaimed, IsClaimedStatus, IsFault, status_of_load};
+ghost use Rattle.aptly_core.specs.Causes.{AsksFor, HasCondition, IsUnbuilt};
+ghost use Rattle.aptly_core.specs.Opens.{RunsClaimed, IsClaimedStatus, IsFault, status_of_load};
 ghost use Rattle.aptly_core.specs.Runs.{RunsOne, RunsList, ComesTo, EndsFrom, EndsWith, IsEnd, IsRunStatus, Turns, TurnComes, IsTurnEnd, status_of_fault, next_of_done};
 ghost use Rattle.aptly_core.specs.Status.{status_of_host};
-ghost use Rattle.aptly_core.specs.Store.{DiffersIn, IsDifference};
 
-use crate::catalogue_root::{LoadFault, commit, load};
 use crate::decide::decide;
 use crate::fault::RunFault;
 use crate::status::Status;
 use ap_host::{Host, HostErr, Inbox};
+use catalogue_root::{LoadFault, enter, open_store, save};
 use command_words::{Command, WordFault, Words, read_words};
 use machine_state::{Refusal, State};
 use query_eval::Patterns;
 use reply_text::usage_line;
 use stage_file::Stage;
 use std::alloc::Global;
-
-/// Commits the new state, where there is one.
-fn save<H: Host>(
-    alloc: Global,
-    host: &mut H,
-    stage: &mut Stage,
-    old: &State,
-    new: &Option<State>,
-) -> Result<(), HostErr>
-    ensures log { GoesOn (H.log host.old) (H.log host.new) (Saves old.now new.now stage.old stage.new result) }
-    ensures cause { HasCause (H.faults host.old) (H.faults host.new) result }
-{
-    match new {
-        None => Ok(()),
-        Some(new) => commit(alloc, host, stage, old, new),
-    }
-}
 
 /// Runs one command in a valid state, at this moment.
 fn run_in<H: Host, I: Inbox, M: Patterns>(
@@ -187,51 +172,6 @@ fn run_list<H: Host, I: Inbox, M: Patterns>(
     Status::Done
 }
 
-/// Removes the staged files that an earlier run left.
-fn settle<H: Host>(host: &mut H, stage: &mut Stage) -> Result<(), HostErr>
-    ensures log { GoesOn (H.log host.old) (H.log host.new) (SettlesTo result) }
-    ensures cause { HasCause (H.faults host.old) (H.faults host.new) result }
-{
-    stage.clear(host)?;
-    stage.barrier(host)
-}
-
-/// Claims the store, and makes what it holds durable; answers false where another run has it.
-fn enter<H: Host>(host: &mut H) -> Result<bool, HostErr>
-    ensures log { GoesOn (H.log host.old) (H.log host.new) (λ l. Enters result) }
-    ensures cause { HasCause (H.faults host.old) (H.faults host.new) result }
-{
-    if !host.claim()? {
-        return Ok(false);
-    }
-    host.barrier()?;
-    Ok(true)
-}
-
-/// Settles a store that was loaded.
-fn settled<H: Host>(host: &mut H, stage: &mut Stage, state: State) -> Result<State, LoadFault>
-    ensures state { IfOk result (λ loaded. loaded ≡ state) }
-    ensures fault { (damage : Damage) → result ≡ Err (LoadFault.Damaged damage) → ⊥ }
-    ensures log { GoesOn (H.log host.old) (H.log host.new) (SettlesTo result) }
-    ensures cause { CauseOf LoadFault.HostFault (H.faults host.old) (H.faults host.new) result }
-{
-    settle(host, stage)?;
-    Ok(state)
-}
-
-/// Loads the store, and settles it.
-fn open_claimed<H: Host>(alloc: Global, host: &mut H, stage: &mut Stage) -> Result<State, LoadFault>
-    ensures valid { IfOk result Valid }
-    ensures differs { DiffersIn result }
-    ensures log { GoesOn (H.log host.old) (H.log host.new) (OpensTo result) }
-    ensures cause { CauseOf LoadFault.HostFault (H.faults host.old) (H.faults host.new) result }
-{
-    match load(alloc, host) {
-        Ok(state) => settled(host, stage, state),
-        Err(fault) => Err(fault),
-    }
-}
-
 /// How a call ends whose store gave no state.
 fn status_of_load(fault: LoadFault) -> Status
     ensures value { result ≡ status_of_load fault }
@@ -266,7 +206,7 @@ fn run_claimed<H: Host, I: Inbox, M: Patterns>(
     ensures only { IsClaimedStatus result }
 {
     let mut stage = Stage::new(alloc);
-    match open_claimed(alloc, host, &mut stage) {
+    match open_store(alloc, host, &mut stage) {
         Ok(state) => run_list(
             alloc, host, inbox, &mut stage, state, commands, now, patterns,
         ),
@@ -385,6 +325,16 @@ pub fn aptly<H: Host, I: Inbox, M: Patterns>(
     ensures log { GoesOn (H.log host.old) (H.log host.new) (CalledWith words.now (giving (I.map inbox.old) now) (IsTold (M.refusals patterns.old) (M.refusals patterns.new) (M.refused patterns.new)) (Rose (H.faults host.old) (H.faults host.new)) (Rose (I.faults inbox.old) (I.faults inbox.new)) result) }
     // On every host: a call that ended came from a valid state, and ends as the commands say from there.
     ensures ended { IsEnd result → (commands : List PlainCommand) × (asked words.now ≡ Option.Some commands) × EndsFrom (giving (I.map inbox.old) now) (IsTold (M.refusals patterns.old) (M.refusals patterns.new) (M.refused patterns.new)) commands result }
+    // A pattern is told to be too large only where the builder refused a text for its size in this call, and the text that it
+    // refused last is that of this condition of a command that the words ask for.
+    ensures too_large { (query : ℕ) (test : ℕ) → result ≡ Status.Refused (PatternTooLarge query test) → (text : List ℕ) × IsTold (M.refusals patterns.old) (M.refusals patterns.new) (M.refused patterns.new) (Option.Some text) × AsksFor words.now (HasCondition query test text) }
+    // One is told to be bad only where the text of this condition is no pattern, or is nested too deep.
+    ensures no_pattern { (query : ℕ) (test : ℕ) → result ≡ Status.Refused (BadPattern query test) → (text : List ℕ) × IsNoPattern text × AsksFor words.now (HasCondition query test text) }
+    // A call is refused as not built only where a command isn't; where all commands were done each is, and where the first
+    // isn't, a call that ends is refused so.
+    ensures not_built { result ≡ Status.Refused NotBuilt → AsksFor words.now IsUnbuilt }
+    ensures all_built { result ≡ Status.Done → AsksFor words.now IsUnbuilt → ⊥ }
+    ensures unbuilt_first { IsEnd result → (first : PlainCommand) (rest : List PlainCommand) → asked words.now ≡ Option.Some (first ∷ rest) → IsUnbuilt first → result ≡ Status.Refused NotBuilt }
     // On every host: the usage place is the words'.
     ensures usage_place { (place : ℕ) → result ≡ Status.Usage place → IsUsagePlace words.now place }
     // And words that spell no commands are answered so, but for a fault of the host or want of memory.

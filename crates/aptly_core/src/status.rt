@@ -2,43 +2,8 @@
 ghost use Rattle.std.specs.Prelude.{◌≡◌};
 ghost use Rattle.aptly_core.specs.Status.{code_of};
 
-use ap_text::SafePath;
+use catalogue_root::Damage;
 use machine_state::Refusal;
-
-/// What is wrong in a store that stands for no state.
-#[derive(Drop)]
-pub enum Damage {
-    /// A file isn't there.
-    Missing {
-        /// The file's path.
-        path: SafePath,
-    },
-    /// A file has another length than is said of it.
-    Size {
-        /// The file's path.
-        path: SafePath,
-        /// The length that is said, in bytes.
-        said: u64,
-        /// The length that was found, in bytes.
-        found: u64,
-    },
-    /// A file has another SHA-256 than is said of it.
-    Digest {
-        /// The file's path.
-        path: SafePath,
-        /// The digest that is said.
-        said: [u8; 32],
-        /// The digest that was found.
-        found: [u8; 32],
-    },
-    /// A line of a file can't stand where it stands.
-    Unreadable {
-        /// The file's path.
-        path: SafePath,
-        /// The number of the first such line, from 1. The end of the file counts as the next line.
-        line: u64,
-    },
-}
 
 /// How a call ended.
 #[derive(Drop)]

@@ -4,3 +4,4 @@ pub mod Lodging
 pub mod Faults
 pub mod Answers
 pub mod Reading
+pub mod Bodies

@@ -27,7 +27,7 @@ use Rattle.hash_pool.proofs.NameLemmas.{law_of_pool_names, not_both, pooled_not_
 use Rattle.hash_pool.proofs.GrowthLemmas.{law_of_growth, grows_none, grows_whole, targets-append}
 use Rattle.machine_state.specs.declared.arrived.UpdateFault.{UpdateFault}
 use Rattle.local_repo.specs.Arrival.{compared, agreed, known_of, standing}
-use Rattle.local_repo.specs.Bodies.{HasBody, IsMet, DigestsApart}
+use Rattle.hash_pool.specs.Bodies.{HasBody, IsMet, DigestsApart}
 use Rattle.local_repo.specs.Answers.{Gives, Fills, IsFileOf, AddsOne, AddsAll}
 use Rattle.local_repo.proofs.ListLemmas.{by_places, each_of, all_map, all_append, found_holds}
 use Rattle.local_repo.proofs.TakenLemmas.{find_holds}

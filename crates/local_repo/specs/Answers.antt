@@ -33,7 +33,7 @@ use Rattle.machine_state.specs.declared.arrived.UpdateFault.TheVariants as fault
 use Rattle.machine_state.specs.Values.{StateView}
 use Rattle.local_repo.specs.Arrival.{Arrives, Entry, cards_of, index_bytes, index_path}
 use Rattle.local_repo.specs.Fits.{FitsIn}
-use Rattle.local_repo.specs.Bodies.{HasBody, DigestsApart}
+use Rattle.hash_pool.specs.Bodies.{HasBody, DigestsApart}
 
 -- a limit that an arrival can pass
 abbrev pub IsInputLimit : LimitKind → Type 0

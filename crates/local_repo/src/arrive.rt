@@ -15,7 +15,7 @@ ghost use Rattle.machine_state.specs.declared.arrived.UpdateFault.TheVariants.{H
 ghost use Rattle.machine_state.specs.State.{IsCatalogue, Valid};
 ghost use Rattle.local_repo.specs.Arrival.{cards_of, each_taken, entries_arrive, known_of, list_in, taken};
 ghost use Rattle.local_repo.specs.Answers.{Comes, IfList, Gives, IsAnyFault, IsOwnFault, Adds, AddsAll, AddsOne, AreShort};
-ghost use Rattle.local_repo.specs.Bodies.{HasBody};
+ghost use Rattle.hash_pool.specs.Bodies.{HasBody};
 ghost use Rattle.local_repo.specs.Files.{file_of, path_at};
 ghost use Rattle.local_repo.specs.Fits.{AreTaken, FitsIn, Fitting, IsTaken};
 

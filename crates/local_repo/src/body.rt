@@ -11,7 +11,7 @@ ghost use Rattle.package_core.specs.Whole.{IsSaid, IsWhole};
 ghost use Rattle.machine_state.specs.declared.arrived.UpdateFault.TheVariants.{HostFault, InboxFault};
 ghost use Rattle.machine_state.specs.State.{IsCatalogue};
 ghost use Rattle.local_repo.specs.Arrival.{compared, facts_of as facts, known_of, of_file, of_known_or_file, taken};
-ghost use Rattle.local_repo.specs.Bodies.{HasBody};
+ghost use Rattle.hash_pool.specs.Bodies.{HasBody};
 ghost use Rattle.local_repo.specs.Fits.{IsTaken, IsCompleted, IfWhole};
 ghost use Rattle.local_repo.specs.Files.{file_of};
 ghost use Rattle.local_repo.specs.Answers.{Gives, IsOwnFault, IsAnyFault, AddsOne};

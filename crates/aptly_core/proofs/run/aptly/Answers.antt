@@ -7,8 +7,9 @@ use Rattle.command_words.specs.Commands.{IsUsagePlace}
 use Rattle.machine_step.specs.Answers.{IsTold}
 use Rattle.machine_step.specs.Step.{giving}
 use Rattle.aptly_core.specs.Calls.{Called}
-use Rattle.aptly_core.specs.Runs.{EndsFrom}
+use Rattle.aptly_core.specs.Runs.{EndsFrom, IsEnd}
 use Rattle.aptly_core.proofs.CallLemmas.{called_with, told_with, unread_with, usage_no_end}
+use Rattle.aptly_core.proofs.CauseLemmas.{too_large, no_pattern, not_built, all_built, unbuilt_first}
 use Rattle.aptly_core.proofs.run.aptly.Goals as goal
 
 pub returns-in-Ok-clause-log : goal.returns-in-Ok-clause-log
@@ -31,3 +32,49 @@ returns-in-Ok-clause-ended g c end = (
 
 pub returns-in-Err-At-clause-ended : goal.returns-in-Err-At-clause-ended
 returns-in-Err-At-clause-ended g c end = absurd (usage_no_end c.tell_usage.result c.tell_usage.ensures.only end)
+
+-- why it is refused
+pub returns-in-Ok-clause-too_large : goal.returns-in-Ok-clause-too_large
+returns-in-Ok-clause-too_large g c query test is =
+    let cs = map plain c.deref.result.now in
+    let found = c.in-Ok.ensures.read ∙ ap (λ xs. Some (map plain xs)) (sym c.deref.ensures.value) in
+    too_large _ _ c.args.words.now cs found query test (subst (EndsFrom _ _ cs) is (c.run_now.ensures.ended (subst IsEnd (sym is) tt)))
+
+pub returns-in-Ok-clause-no_pattern : goal.returns-in-Ok-clause-no_pattern
+returns-in-Ok-clause-no_pattern g c query test is =
+    let cs = map plain c.deref.result.now in
+    let found = c.in-Ok.ensures.read ∙ ap (λ xs. Some (map plain xs)) (sym c.deref.ensures.value) in
+    no_pattern _ _ c.args.words.now cs found query test (subst (EndsFrom _ _ cs) is (c.run_now.ensures.ended (subst IsEnd (sym is) tt)))
+
+pub returns-in-Ok-clause-not_built : goal.returns-in-Ok-clause-not_built
+returns-in-Ok-clause-not_built g c is =
+    let cs = map plain c.deref.result.now in
+    let found = c.in-Ok.ensures.read ∙ ap (λ xs. Some (map plain xs)) (sym c.deref.ensures.value) in
+    not_built _ _ c.args.words.now cs found (subst (EndsFrom _ _ cs) is (c.run_now.ensures.ended (subst IsEnd (sym is) tt)))
+
+pub returns-in-Ok-clause-all_built : goal.returns-in-Ok-clause-all_built
+returns-in-Ok-clause-all_built g c is asks =
+    let cs = map plain c.deref.result.now in
+    let found = c.in-Ok.ensures.read ∙ ap (λ xs. Some (map plain xs)) (sym c.deref.ensures.value) in
+    all_built _ _ c.args.words.now cs found (subst (EndsFrom _ _ cs) is (c.run_now.ensures.ended (subst IsEnd (sym is) tt))) asks
+
+pub returns-in-Ok-clause-unbuilt_first : goal.returns-in-Ok-clause-unbuilt_first
+returns-in-Ok-clause-unbuilt_first g c end first rest asks is =
+    let cs = map plain c.deref.result.now in
+    let found = c.in-Ok.ensures.read ∙ ap (λ xs. Some (map plain xs)) (sym c.deref.ensures.value) in
+    unbuilt_first _ _ c.args.words.now cs found c.run_now.result end (c.run_now.ensures.ended end) first rest asks is
+
+pub returns-in-Err-At-clause-too_large : goal.returns-in-Err-At-clause-too_large
+returns-in-Err-At-clause-too_large g c query test is = absurd (usage_no_end c.tell_usage.result c.tell_usage.ensures.only (subst IsEnd (sym is) tt))
+
+pub returns-in-Err-At-clause-no_pattern : goal.returns-in-Err-At-clause-no_pattern
+returns-in-Err-At-clause-no_pattern g c query test is = absurd (usage_no_end c.tell_usage.result c.tell_usage.ensures.only (subst IsEnd (sym is) tt))
+
+pub returns-in-Err-At-clause-not_built : goal.returns-in-Err-At-clause-not_built
+returns-in-Err-At-clause-not_built g c is = absurd (usage_no_end c.tell_usage.result c.tell_usage.ensures.only (subst IsEnd (sym is) tt))
+
+pub returns-in-Err-At-clause-all_built : goal.returns-in-Err-At-clause-all_built
+returns-in-Err-At-clause-all_built g c is asks = usage_no_end c.tell_usage.result c.tell_usage.ensures.only (subst IsEnd (sym is) tt)
+
+pub returns-in-Err-At-clause-unbuilt_first : goal.returns-in-Err-At-clause-unbuilt_first
+returns-in-Err-At-clause-unbuilt_first g c end first rest asks is = absurd (usage_no_end c.tell_usage.result c.tell_usage.ensures.only end)

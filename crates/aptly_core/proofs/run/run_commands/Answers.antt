@@ -1,8 +1,8 @@
 use Rattle.std.proofs.Common.{Bool, Ok, subst}
 use Rattle.ap_host.proofs.ChangeLemmas.{GoesOn-map, GoesOn-then}
-use Rattle.aptly_core.specs.Opens.{Enters}
 use Rattle.aptly_core.proofs.CallLemmas.{called_claimed, called_busy, called_fault, fault_no_end}
 use Rattle.aptly_core.proofs.run.run_commands.Goals as goal
+use Rattle.catalogue_root.specs.Opens.{Enters}
 
 pub returns-in-Ok-true-clause-log : goal.returns-in-Ok-true-clause-log
 returns-in-Ok-true-clause-log g c =

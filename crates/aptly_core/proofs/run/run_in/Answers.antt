@@ -4,6 +4,7 @@ use Rattle.ap_host.specs.declared.host.Op.TheVariants.{Say}
 use Rattle.ap_host.specs.declared.host.Op.{Op}
 use Rattle.ap_host.specs.declared.host.HostErr.{HostErr}
 use Rattle.ap_host.specs.Calls.{Did}
+use Rattle.ap_host.specs.Disk.{extended}
 use Rattle.ap_host.proofs.ChangeLemmas.{does, GoesOn-map, GoesOn-then}
 use Rattle.command_words.specs.Plain.{plain}
 use Rattle.machine_state.specs.State.{Valid}
@@ -12,8 +13,9 @@ use Rattle.machine_step.specs.Answers.{IsTold}
 use Rattle.machine_step.specs.Step.{giving}
 use Rattle.aptly_core.specs.Machine.{Steps}
 use Rattle.aptly_core.specs.Runs.{RunsOne}
+use Rattle.catalogue_root.proofs.CommitLemmas.{rest_valid}
+use Rattle.catalogue_root.proofs.SaveLemmas.{saving_commits}
 use Rattle.aptly_core.proofs.Lawful.{keeps}
-use Rattle.aptly_core.proofs.CommitLemmas.{rest_valid}
 use Rattle.aptly_core.proofs.GrowLemmas.{taking_work}
 use Rattle.aptly_core.proofs.RunLemmas.{made, runs_err, broke_taking, quietly, say_broke, saved_work, taken_work, all_grows, all_rests, Decided, decided_then_saved, runs_ok}
 use Rattle.aptly_core.proofs.run.run_in.Goals as goal
@@ -37,7 +39,7 @@ returns-in_err-save-clause-log g c =
     let mid = c.decide.new.stage in
     let now = c.save.new.stage in
     GoesOn-then _ _ _ _ _ _ c.in_ok-outcome.ensures.log c.save.ensures.log (λ l p a d w.
-    runs_err given _ s cmd before now _ e.0 l (p ++ a) e.1 (taken_work l p a d.grows w.only) (λ may.
+    runs_err given _ s cmd before now _ e.0 l (p ++ a) e.1 (taken_work l (extended p l) p a d.grows (saving_commits out.state (extended p l) a w.only)) (λ may.
     let valid = rest_valid s l may.rest in
     let step = c.in_ok-outcome.ensures.comes valid in
     let next = keeps given step.0 s cmd (made s out) valid step.2 in
@@ -64,7 +66,7 @@ returns-in_err-say-clause-log g c =
     let d = x.decides in
     let w = x.saves in
     subst (λ (z : List Op). RunsOne given Told s cmd before now c.from_residual-in_err-say.result l (z ++ b)) x.cut (
-    runs_err given Told s cmd before now c.from_residual-in_err-say.result e.0 l ((p ++ a) ++ b) e.1 (saved_work l p a d.grows w.only out.reply c.say.result b did) (λ may.
+    runs_err given Told s cmd before now c.from_residual-in_err-say.result e.0 l ((p ++ a) ++ b) e.1 (saved_work l (extended p l) p a d.grows (saving_commits out.state (extended p l) a w.only) out.reply c.say.result b did) (λ may.
     let valid = rest_valid s l may.rest in
     let step = c.in_ok-outcome.ensures.comes valid in
     let next = keeps given step.0 s cmd (made s out) valid step.2 in

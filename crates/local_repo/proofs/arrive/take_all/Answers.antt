@@ -17,7 +17,7 @@ use Rattle.machine_state.specs.declared.arrived.UpdateFault.{UpdateFault}
 use Rattle.machine_state.specs.declared.refusal.Refusal.{Refusal}
 use Rattle.local_repo.specs.Arrival.{each_taken, taken}
 use Rattle.local_repo.specs.Answers.{AddsOne, AddsAll, Gives, FaultGives}
-use Rattle.local_repo.specs.Bodies.{HasBody}
+use Rattle.hash_pool.specs.Bodies.{HasBody}
 use Rattle.local_repo.specs.Files.{path_at}
 use Rattle.local_repo.specs.Fits.{AreTaken}
 use Rattle.local_repo.proofs.ListLemmas.{AreEqual, ascending_alike, next_taken, at_member, all_first, split_at}

@@ -6,7 +6,7 @@ use Rattle.package_core.specs.Card.{Card, IsPackage}
 use Rattle.package_core.specs.Whole.{IsSaid}
 use Rattle.machine_state.specs.State.{IsCatalogue}
 use Rattle.local_repo.specs.Answers.{AddsOne}
-use Rattle.local_repo.specs.Bodies.{HasBody}
+use Rattle.hash_pool.specs.Bodies.{HasBody}
 use Rattle.local_repo.specs.Fits.{IsTaken}
 use Rattle.local_repo.proofs.LogLemmas.{nothing_adds}
 use Rattle.local_repo.proofs.arrive.take_next.Goals as goal

@@ -2,8 +2,9 @@ use Rattle.std.proofs.Common.{◌≡◌, Some, refl, sym, ap, ◌∙◌}
 use Rattle.std.specs.Option.{IfSome, option_map}
 use Rattle.std.specs.Rc.{rc_value}
 use Rattle.package_core.specs.Card.{Card}
+use Rattle.ap_host.specs.Disk.{live_of}
 use Rattle.ap_host.proofs.ChangeLemmas.{GoesOn-map, GoesOn-none}
-use Rattle.local_repo.specs.Bodies.{HasBody}
+use Rattle.hash_pool.specs.Bodies.{HasBody}
 use Rattle.local_repo.specs.Files.{file_of}
 use Rattle.local_repo.proofs.LogLemmas.{nothing_adds, adds_on, reuse_needs, itself_on}
 use Rattle.local_repo.proofs.body.made.Goals as goal
@@ -13,7 +14,7 @@ returns-in-Some-clause-log g c =
     let sha = c.args.one.now.said.sha256 in
     let k : Card = c.as_ref.result.now in
     let is : file_of c.args.files.now sha ≡ Some k = ap (option_map rc_value) (sym c.in-Some.ensures.value) ∙ ap Some (sym c.as_ref.ensures) in
-    GoesOn-none _ _ _ refl (λ l. nothing_adds _ _ (λ f. IfSome (file_of c.args.files.now sha) (HasBody f)) c.reused.result _ l (reuse_needs c.reused.result (file_of c.args.files.now sha) k _ is c.reused.ensures.body))
+    GoesOn-none _ _ _ refl (λ l. nothing_adds _ _ (λ f. IfSome (file_of c.args.files.now sha) (HasBody f)) c.reused.result _ l (reuse_needs c.reused.result (file_of c.args.files.now sha) k (live_of l) is c.reused.ensures.body))
 
 pub returns-in-None-clause-log : goal.returns-in-None-clause-log
 returns-in-None-clause-log g c =

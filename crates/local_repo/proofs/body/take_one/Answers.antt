@@ -9,7 +9,7 @@ use Rattle.machine_state.specs.declared.limit.Limit.TheVariants.{File}
 use Rattle.machine_state.specs.Limits.{limit_number}
 use Rattle.package_core.specs.Card.{Card}
 use Rattle.package_core.proofs.OrderLaws.{package_total}
-use Rattle.local_repo.specs.Bodies.{HasBody}
+use Rattle.hash_pool.specs.Bodies.{HasBody}
 use Rattle.local_repo.proofs.TakenLemmas.{taken_large, taken_fault, taken_ok, where_whole, tells_gives, completed_taken}
 use Rattle.local_repo.proofs.LogLemmas.{nothing_adds, adds_on, known_body, stands_body}
 use Rattle.local_repo.proofs.body.take_one.Goals as goal
