@@ -68,10 +68,10 @@ returns-in_err-next-clause-log g c =
     let log = subst (λ m. GoesOn (g.H.Host.log c.loop-one.host) (g.H.Host.log c.take_next.new.host) (AddsOne m (λ f. All (HasBody f) c.args.known.now) c.take_next.result c.loop-one.stage c.take_next.new.stage)) c.loop-one.invariant.inbox_same c.take_next.ensures.log in
     GoesOn-then _ _ _ _ _ _ c.loop-one.invariant.log log (λ l a b h n. all_stops _ _ _ _ _ _ _ l a b h n c.from_residual-in_err-next.result c.from_residual-in_err-next.ensures.0)
 
-pub returns-in_err-new-clause-log : goal.returns-in_err-new-clause-log
-returns-in_err-new-clause-log g c =
+pub returns-in_err-share-clause-log : goal.returns-in_err-share-clause-log
+returns-in_err-share-clause-log g c =
     let log = subst (λ m. GoesOn (g.H.Host.log c.loop-one.host) (g.H.Host.log c.take_next.new.host) (AddsOne m (λ f. All (HasBody f) c.args.known.now) c.take_next.result c.loop-one.stage c.take_next.new.stage)) c.loop-one.invariant.inbox_same c.take_next.ensures.log in
-    GoesOn-then _ _ _ _ _ _ c.loop-one.invariant.log log (λ l a b h n. all_stops _ _ _ _ _ _ _ l a b h n c.from_residual-in_err-new.result c.from_residual-in_err-new.ensures.0)
+    GoesOn-then _ _ _ _ _ _ c.loop-one.invariant.log log (λ l a b h n. all_stops _ _ _ _ _ _ _ l a b h n c.from_residual-in_err-share.result c.from_residual-in_err-share.ensures.0)
 
 pub returns-in_err-push-clause-log : goal.returns-in_err-push-clause-log
 returns-in_err-push-clause-log g c =
@@ -89,7 +89,7 @@ loop-one-preserved g c =
     let paths = c.args.paths.now in
     let ys : List Card = map rc_value c.loop-one.taken.items in
     let took : take (i + 1) (map rc_value items) ≡ take i (map rc_value items) ++ x ∷ [] = next_taken rc_value items i c.one-item.result c.loop-one-test.true c.one-item.is in
-    let pushed : map rc_value c.push.new.self.items ≡ ys ++ q ∷ [] = ap (map rc_value) c.in_ok-push.ensures.items ∙ map-append rc_value c.loop-one.taken.items (c.in_ok-new.field-0 ∷ []) ∙ ap (λ (p : Card). ys ++ p ∷ []) c.in_ok-new.ensures.ok in
+    let pushed : map rc_value c.push.new.self.items ≡ ys ++ q ∷ [] = ap (map rc_value) c.in_ok-push.ensures.items ∙ map-append rc_value c.loop-one.taken.items (c.in_ok-share.field-0 ∷ []) ∙ ap (λ (p : Card). ys ++ p ∷ []) c.in_ok-share.ensures in
     let log = subst (λ m. GoesOn (g.H.Host.log c.loop-one.host) (g.H.Host.log c.take_next.new.host) (AddsOne m (λ f. All (HasBody f) known) c.take_next.result c.loop-one.stage c.take_next.new.stage)) c.loop-one.invariant.inbox_same c.take_next.ensures.log in
     record {
       log = GoesOn-then _ _ _ _ _ _ c.loop-one.invariant.log log (λ l a b h n. subst (λ (zs : List Card). AddsAll (g.I.Inbox.map c.args.inbox.now) known (Ok zs) c.args.stage.now c.take_next.new.stage l (a ++ b)) (sym pushed) (all_more _ known ys c.take_next.result _ _ _ l a b h n q c.in_ok-next.was));

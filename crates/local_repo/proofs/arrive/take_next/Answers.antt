@@ -1,4 +1,4 @@
-use Rattle.std.proofs.Common.{refl, subst, IfOk}
+use Rattle.std.proofs.Common.{refl, subst, IfOk, ◌∙◌}
 use Rattle.std.proofs.lemmas.Result.{IfOk-from_err}
 use Rattle.ap_host.proofs.ChangeLemmas.{GoesOn-none}
 use Rattle.package_core.specs.Card.{Card, IsPackage}
@@ -14,4 +14,4 @@ returns-in_err-path-clause-log g c =
 
 pub returns-clause-taken : goal.returns-clause-taken
 returns-clause-taken g c =
-    subst (λ (x : Card). IfOk c.take_one.result (λ q. IsCatalogue c.args.known.now → IsPackage x → IsSaid x.said → IsTaken c.args.known.now x q)) c.as_ref.ensures c.take_one.ensures.taken
+    subst (λ (x : Card). IfOk c.take_one.result (λ q. IsCatalogue c.args.known.now → IsPackage x → IsSaid x.said → IsTaken c.args.known.now x q)) (c.package.ensures ∙ c.as_ref.ensures) c.take_one.ensures.taken
