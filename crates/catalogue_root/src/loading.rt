@@ -16,6 +16,7 @@ use catalogue_text::{RootFault, read_root};
 use hash_pool::{length, pool_path, read_whole};
 use machine_state::State;
 use package_core::Package;
+use package_list::SharedPackage;
 use std::alloc::Global;
 use std::rc::Rc;
 
@@ -54,7 +55,7 @@ fn look_for<H: Host>(alloc: Global, host: &mut H, wanted: &Package) -> Result<()
 fn look_for_all<H: Host>(
     alloc: Global,
     host: &mut H,
-    packages: &[Rc<Package>],
+    packages: &[Rc<SharedPackage>],
 ) -> Result<(), LoadFault>
     ensures told { ForSome (H.log host.old) (λ l. AreLookedFor (live_of l) (map rc_value packages.now) result) }
     ensures differs { DiffersIn result }
@@ -62,7 +63,7 @@ fn look_for_all<H: Host>(
     ensures cause { CauseOf HostFault (H.faults host.old) (H.faults host.new) result }
 {
     for member in packages {
-        look_for(alloc, host, member.as_ref())?;
+        look_for(alloc, host, member.as_ref().package())?;
     }
     Ok(())
 }

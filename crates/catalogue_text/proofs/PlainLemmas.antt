@@ -10,9 +10,9 @@ use Rattle.std.proofs.lemmas.Fmt.{decimal_by_steps}
 use Rattle.hex.specs.Hex.{lower_digits, encode_with, encode_lower}
 use Rattle.sha2.specs.Sha256.{sha256}
 use Rattle.sha2.proofs.Facts256.{length-sha256}
-use Rattle.ap_text.specs.Names.{is_name, is_name_byte}
+use Rattle.ap_text.specs.Names.{is_name, is_name_byte, is_component}
 use Rattle.package_core.specs.Card.{Card, package_text}
-use Rattle.machine_state.specs.State.{is_line, is_line_byte, IsLineText, is_component}
+use Rattle.machine_state.specs.State.{is_line, is_line_byte, IsLineText}
 use Rattle.catalogue_text.specs.Lines.{IsPlain}
 use Rattle.catalogue_text.specs.Root.{id_of, blank_and, known_line, repos_line, name_line, comment_line, distribution_line, component_line, set_line}
 use Rattle.catalogue_text.specs.Grammar.{IsName}

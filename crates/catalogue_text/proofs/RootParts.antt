@@ -6,14 +6,14 @@ use Rattle.std.specs.Fmt.{decimal}
 use Rattle.std.proofs.lemmas.Fmt.{decimal_injective}
 use Rattle.std.proofs.lemmas.List.{append_cancel_left}
 use Rattle.std.proofs.lemmas.List.Concat.{flat_map_single}
-use Rattle.ap_text.specs.Names.{is_name}
+use Rattle.ap_text.specs.Names.{is_name, is_component}
 use Rattle.package_core.specs.Card.{Card}
 use Rattle.package_core.specs.Order.{package_cmp}
 use Rattle.package_list.specs.Sorted.{AllLess}
 use Rattle.machine_state.specs.declared.limit.Limit.TheVariants.{Repos, Packages, Known}
 use Rattle.machine_state.specs.declared.repo.Repo.{Repo}
 use Rattle.machine_state.specs.Limits.{limit_number}
-use Rattle.machine_state.specs.State.{IsLineText, is_component}
+use Rattle.machine_state.specs.State.{IsLineText}
 use Rattle.machine_state.specs.Values.{StateView}
 use Rattle.catalogue_text.specs.Pieces.{Piece, alone, packed}
 use Rattle.catalogue_text.specs.Root.{id_of, blank_and, known_line, repos_line, name_line, comment_line, distribution_line, component_line, set_line, set_pieces, repo_pieces, known_pieces, repos_pieces, last_pieces, root_pieces}

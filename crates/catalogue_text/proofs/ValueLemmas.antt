@@ -1,5 +1,5 @@
 -- Lines that give one value each.
-use Rattle.std.proofs.Common.{rules, ◌≡◌, ℕ, zero, suc, ◌<◌, ◌^◌, true, false, not, codes, ◌∙◌, List, [], ◌∷◌, ◌++◌, get_or, Option, Some, None, Result, Ok, Err, IsTrue, IsFalse, refl, sym, ap, subst, arith}
+use Rattle.std.proofs.Common.{rules, ◌≡◌, ℕ, zero, suc, ◌<◌, ◌^◌, true, false, not, codes, ◌∙◌, List, [], ◌∷◌, ◌++◌, Bool, get_or, Option, Some, None, Result, Ok, Err, IsTrue, IsFalse, refl, sym, ap, subst, arith}
 use Rattle.std.specs.List.{list_all}
 use Rattle.std.specs.Str.{IsUtf8, bytes_eq}
 use Rattle.std.proofs.lemmas.Slice.Eq.{bytes_eq-Decides}
@@ -11,12 +11,11 @@ use Rattle.std.proofs.lemmas.Bool.Decides.{nat_tests}
 use Rattle.std.proofs.lemmas.Fmt.{parse-decimal, IsAscii-decimal}
 use Rattle.std.proofs.lemmas.List.{append_cancel_left}
 use Rattle.std.proofs.lemmas.Str.{IsUtf8-from_ascii}
-use Rattle.ap_text.specs.Names.{is_name, is_name_byte}
+use Rattle.ap_text.specs.Names.{is_name, is_name_byte, is_component}
 use Rattle.catalogue_text.specs.Lines.{IsLine}
 use Rattle.catalogue_text.specs.Reading.{NoLine}
 use Rattle.catalogue_text.specs.Grammar.{IsName}
 use Rattle.catalogue_text.proofs.LineLemmas.{line_unique}
-use Rattle.machine_state.specs.State.{is_component}
 
 name_byte_small : (b : ℕ) → is_name_byte b ≡ true → b < 128
 name_byte_small b e = grind (arith, nat_tests)
@@ -49,13 +48,6 @@ no_value f Good text key written rest l h a behind g m =
 pub no_key : {A : Type 0} (f : A → List ℕ) (Good : A → Type 0) (text key : List ℕ) → ((written behind : List ℕ) → IsLine text (key ++ written) behind → ⊥) → NoLine (λ a. key ++ f a) Good text
 no_key f Good text key h a behind g m = h (f a) behind m
 
--- what doesn't parse is no number's digits
-pub no_number : {E : Type 0} (digits : List ℕ) (r : Result ℕ E) (e : E) → ParsesUnsigned 64 10 digits r → r ≡ Err e → (n : ℕ) → n < 2 ^ 64 → digits ≡ decimal n → ⊥
-no_number digits r e p is n small f = let t = parse-decimal 64 n digits r small small f p in cc
-
-pub same_number : {E : Type 0} (digits : List ℕ) (r : Result ℕ E) (m : ℕ) → ParsesUnsigned 64 10 digits r → r ≡ Ok m → (n : ℕ) → n < 2 ^ 64 → digits ≡ decimal n → n ≡ m
-same_number digits r m p is n small f = let t = parse-decimal 64 n digits r small small f p in cc
-
 pub number_utf8 : (written : List ℕ) → (IsUtf8 written → ⊥) → (n : ℕ) → n < 2 ^ 64 → written ≡ decimal n → ⊥
 number_utf8 written h n small e = h (subst IsUtf8 (sym e) (IsUtf8-from_ascii (decimal n) (IsAscii-decimal n small)))
 
@@ -79,9 +71,5 @@ pub at_default : {B : Type 0} (found : Option B) (P : Type 0) (Q : B → Type 0)
 at_default None P Q h n = h
 at_default (Some x) P Q h n = absurd (n x refl)
 
-pub not_release : (a name : List ℕ) → is_component a ≡ true → name ≡ a → true ≡ bytes_eq name (codes "Release") → ⊥
-not_release a name g e h =
-    let p = (and_parts (is_name a) (not (bytes_eq a (codes "Release"))) g).1 in
-    let t : bytes_eq a (codes "Release") ≡ true = ap (λ x. bytes_eq x (codes "Release")) (sym e) ∙ sym h in
-    let f : not (bytes_eq a (codes "Release")) ≡ false = ap not t in
-    true≢false (sym p ∙ f)
+pub no_component : (a name : List ℕ) (is : Bool) → is_component a ≡ true → name ≡ a → is ≡ is_component name → is ≡ false → ⊥
+no_component a name is g e told not_is = true≢false (sym g ∙ ap is_component (sym e) ∙ sym told ∙ not_is)

@@ -2,7 +2,7 @@
 -- valid state that it has to meet, by itself or together with the pieces before it. Nothing is asked of what could follow.
 use Rattle.std.specs.Prelude.{◌≡◌, ◌≤◌, ℕ, zero, suc, List, [], ◌∷◌, ◌++◌, codes, IsTrue, IsFalse, IfSome, All}
 use Rattle.std.specs.declared.cmp.Ordering.TheVariants.{Less}
-use Rattle.ap_text.specs.Names.{is_name}
+use Rattle.ap_text.specs.Names.{is_name, is_component}
 use Rattle.package_core.specs.Card.{Card}
 use Rattle.package_core.specs.Order.{package_cmp}
 use Rattle.package_list.specs.Sorted.{AllLess}
@@ -10,7 +10,7 @@ use Rattle.package_list.specs.Lists.{clashes}
 use Rattle.machine_state.specs.declared.limit.Limit.TheVariants.{Repos, Packages, Known, Catalogue, File}
 use Rattle.machine_state.specs.declared.repo.Repo.{Repo}
 use Rattle.machine_state.specs.Limits.{limit_number}
-use Rattle.machine_state.specs.State.{IsLineText, IsKnown, is_component, name_cmp, text_length}
+use Rattle.machine_state.specs.State.{IsLineText, IsKnown, name_cmp, text_length}
 use Rattle.machine_state.specs.Values.{StateView}
 use Rattle.catalogue_text.specs.Pieces.{Piece, alone, packed}
 use Rattle.catalogue_text.specs.Root.{id_of, known_line, repos_line, name_line, comment_line, distribution_line, component_line, set_line}

@@ -2,13 +2,14 @@
 use Rattle.std.specs.Prelude.{◌≡◌, ◌≤◌, ◌<◌, ◌↔◌, ◌+◌, ℕ, List, [], ◌∷◌, ◌++◌, length, All, Option, Some, None, slice_get, IsTrue, IfSome}
 use Rattle.std.specs.BTreeMap.{get_by_text}
 use Rattle.std.specs.List.{flat_map}
+use Rattle.ap_text.specs.Names.{is_component}
 use Rattle.package_core.specs.Card.{Card}
 use Rattle.package_core.specs.Order.{package_cmp}
 use Rattle.package_list.specs.Sorted.{AllLess, IsAscending}
 use Rattle.machine_state.specs.declared.repo.Repo.{Repo}
 use Rattle.machine_state.specs.declared.limit.Limit.TheVariants.{Repos, Packages, Known as KnownCount, Catalogue, File}
 use Rattle.machine_state.specs.Limits.{limit_number}
-use Rattle.machine_state.specs.State.{IsKnown, IsLineText, is_component, text_length, Valid}
+use Rattle.machine_state.specs.State.{IsKnown, IsLineText, text_length, Valid}
 use Rattle.machine_state.specs.Values.{StateView}
 use Rattle.catalogue_text.specs.declared.known.Known.{Known}
 use Rattle.catalogue_text.specs.declared.stop.Stop.{Stop}

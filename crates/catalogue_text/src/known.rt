@@ -1,7 +1,5 @@
 //! The packages of a root.
 ghost use Rattle.std.specs.Prelude.{◌≡◌, ◌++◌, ◌∷◌, ◌≤◌, ◌↔◌, IsTrue, All, ℕ, [], List, Option, Some, IfOk, IfErr, OnErr, MatchOption, MatchResult, length, string_bytes, slice_get, MatchBool};
-ghost use Rattle.hex.specs.Hex.{encode_lower};
-ghost use Rattle.sha2.specs.Sha256.{sha256};
 ghost use Rattle.package_core.specs.Card.{Card, package_text};
 ghost use Rattle.package_core.specs.Whole.{IsWhole, IsTextOf};
 ghost use Rattle.package_core.specs.Order.{package_cmp};
@@ -18,10 +16,10 @@ use crate::stop::Stop;
 use crate::values::count_line;
 use machine_state::Limit;
 use package_core::Package;
-use package_list::PackageList;
-use sha2::{Digest, Sha256};
+use package_list::{PackageList, SharedPackage};
 use std::alloc::{AllocError, Global};
 use std::collections::BTreeMap;
+use std::rc::Rc;
 
 /// The packages that were read, and what is found by them.
 #[derive(Drop)]
@@ -76,11 +74,14 @@ impl Known {
         ensures indexed { IfOk result (λ done. IsIndexed self.new) }
     {
         let small = are_small(self.small, &new);
-        if !self.list.push(alloc, new)? {
+        let new = SharedPackage::with_text(new, text);
+        let id = id_text(alloc, &new)?;
+        let new = Rc::new(alloc, new)?;
+        if !self.list.push_shared(new)? {
             return Ok(false);
         }
         let place = self.list.len() - 1;
-        self.places.insert(id_text(alloc, text)?, place)?;
+        self.places.insert(id, place)?;
         self.room = less(self.room, text.len() as u64);
         self.small = small;
         Ok(true)
@@ -104,14 +105,12 @@ fn less(room: Option<u64>, used: u64) -> Option<u64>
     }
 }
 
-/// The SHA-256 of a text, in lower case.
-pub(crate) fn id_text(alloc: Global, text: &[u8]) -> Result<String, AllocError>
-    ensures { IfOk result (λ id. string_bytes id ≡ encode_lower (sha256 text.now)) }
+/// The id of a package, in lower case.
+#[tactic(auto, unfolding(crate::specs::Root::id_of))]
+pub(crate) fn id_text(alloc: Global, member: &SharedPackage) -> Result<String, AllocError>
+    ensures { IfOk result (λ id. string_bytes id ≡ id_of member.now) }
 {
-    let mut hasher = Sha256::new();
-    hasher.update(text);
-    let digest = hasher.finalize();
-    hex::encode(alloc, &digest)
+    hex::encode(alloc, member.id())
 }
 
 /// A package with its line, its text, and the text behind both.
@@ -122,7 +121,7 @@ fn package_at<'a>(
     ensures { IfOk result (λ found. MatchOption found ((p : Card) (behind : List ℕ) → Begins text.now (packed p) behind → ⊥) (λ t. Begins text.now (packed t.0) t.2.now × (t.1.now ≡ package_text t.0) × ((p : Card) (behind : List ℕ) → Begins text.now (packed p) behind → p ≡ t.0))) }
 {
     let most = size_of(text);
-    let Some((size, rest)) = count_line(alloc, text, "package ", most)? else {
+    let Some((size, rest)) = count_line(text, "package ", most) else {
         return Ok(None);
     };
     let Some((own, behind)) = front_of(rest, size) else {
@@ -190,7 +189,7 @@ pub(crate) fn read_known(alloc: Global, text: &[u8]) -> Result<(Known, &[u8]), S
         return Err(Stop::Before(text.len()));
     };
     let most = Limit::Known.number();
-    let Some((count, rest)) = count_line(alloc, rest, "known ", most)? else {
+    let Some((count, rest)) = count_line(rest, "known ", most) else {
         return Err(Stop::Before(rest.len()));
     };
     read_packages(alloc, rest, count)

@@ -107,7 +107,7 @@ pub(crate) fn read_repos<'a>(
         return Err(Stop::Before(text.len()));
     };
     let most = Limit::Repos.number();
-    let Some((count, rest)) = count_line(alloc, rest, "repos ", most)? else {
+    let Some((count, rest)) = count_line(rest, "repos ", most) else {
         return Err(Stop::Before(rest.len()));
     };
     read_each(alloc, rest, known, count)

@@ -69,7 +69,7 @@ pub(crate) fn read_set<'a>(
     ensures stops { IfErr result (λ stop. IfBefore stop (λ left. IdsApart known.now.list → Stops (SetPart known.now.list) text.now left)) }
 {
     let most = Limit::Packages.number();
-    let Some((count, rest)) = count_line(alloc, text, "set ", most)? else {
+    let Some((count, rest)) = count_line(text, "set ", most) else {
         return Err(Stop::Before(text.len()));
     };
     read_members(alloc, rest, known, count)

@@ -2,15 +2,15 @@
 ghost use Rattle.std.specs.Prelude.{◌≡◌, ◌∷◌, ◌++◌, ◌≤◌, ℕ, List, [], Option, Some, IfOk, IfSome, MatchOption, IsTrue, IsFalse, unwrap_or};
 ghost use Rattle.std.specs.Fmt.{decimal};
 ghost use Rattle.std.specs.List.{list_all};
-ghost use Rattle.ap_text.specs.Names.{is_name as name};
-ghost use Rattle.machine_state.specs.State.{is_line as line_text, is_line_byte as line_byte, IsLineText, is_component as component};
+ghost use Rattle.ap_text.specs.Names.{is_name as name, is_component as component};
+ghost use Rattle.machine_state.specs.State.{is_line as line_text, is_line_byte as line_byte, IsLineText};
 ghost use Rattle.catalogue_text.specs.Lines.{IsLine};
 ghost use Rattle.catalogue_text.specs.Root.{blank_and, name_line as name_spelled, comment_line as comment_spelled, distribution_line as distribution_spelled, component_line as component_spelled};
 ghost use Rattle.catalogue_text.specs.Grammar.{IsName};
 ghost use Rattle.catalogue_text.specs.Reading.{NoLine, ReadsLine};
 
 use crate::lines::{as_text, key_line};
-use ap_text::{Name, is_name};
+use ap_text::{Name, is_component, is_name, read_decimal};
 use control_stanza::Text;
 use std::alloc::{AllocError, Global};
 
@@ -154,51 +154,36 @@ pub(crate) fn component_line(
     match name_line(alloc, text, "component ")? {
         None => Ok(None),
         Some((name, rest)) => {
-            if name.as_str() == "Release" {
-                Ok(None)
-            } else {
+            if is_component(name.as_str()) {
                 Ok(Some((name, rest)))
+            } else {
+                Ok(None)
             }
         }
     }
 }
 
 /// The number that digits without leading zeros write, where it is at most so great.
-fn count_of(alloc: Global, digits: &str, most: u64) -> Result<Option<u64>, AllocError>
-    ensures { IfOk result (λ found. MatchOption found ((n : ℕ) → n ≤ most → digits.now ≡ decimal n → ⊥) (λ n. (n ≤ most) × (digits.now ≡ decimal n))) }
+fn count_of(digits: &str, most: u64) -> Option<u64>
+    ensures { MatchOption result ((n : ℕ) → n ≤ most → digits.now ≡ decimal n → ⊥) (λ n. (n ≤ most) × (digits.now ≡ decimal n)) }
 {
-    match digits.parse::<u64>() {
-        Err(_) => Ok(None),
-        Ok(count) => {
-            if count > most {
-                return Ok(None);
-            }
-            let written = count.to_string(alloc)?;
-            if written.as_str() == digits {
-                Ok(Some(count))
-            } else {
-                Ok(None)
-            }
-        }
+    match read_decimal(digits) {
+        None => None,
+        Some(count) => { if count > most { None } else { Some(count) } }
     }
 }
 
 /// A line of a key and a number that is at most so great.
-pub(crate) fn count_line<'a>(
-    alloc: Global,
-    text: &'a [u8],
-    key: &str,
-    most: u64,
-) -> Result<Option<(u64, &'a [u8])>, AllocError>
-    ensures { IfOk result (λ found. MatchOption found (NoLine (λ n. key.now ++ decimal n) (λ n. n ≤ most) text.now) (λ p. ReadsLine (λ n. key.now ++ decimal n) (λ n. n ≤ most) text.now p.0 p.1.now)) }
+pub(crate) fn count_line<'a>(text: &'a [u8], key: &str, most: u64) -> Option<(u64, &'a [u8])>
+    ensures { MatchOption result (NoLine (λ n. key.now ++ decimal n) (λ n. n ≤ most) text.now) (λ p. ReadsLine (λ n. key.now ++ decimal n) (λ n. n ≤ most) text.now p.0 p.1.now) }
 {
     match key_line(text, key) {
-        None => Ok(None),
+        None => None,
         Some((written, rest)) => match as_text(written) {
-            None => Ok(None),
-            Some(digits) => match count_of(alloc, digits, most)? {
-                None => Ok(None),
-                Some(count) => Ok(Some((count, rest))),
+            None => None,
+            Some(digits) => match count_of(digits, most) {
+                None => None,
+                Some(count) => Some((count, rest)),
             },
         },
     }

@@ -11,7 +11,7 @@ use ap_text::Name;
 use control_stanza::Text;
 use machine_state::{Repo, State};
 use package_core::Package;
-use package_list::PackageList;
+use package_list::{PackageList, SharedPackage};
 use std::alloc::{AllocError, Global};
 use std::fmt::Write;
 
@@ -74,11 +74,10 @@ fn put_package(alloc: Global, out: &mut String, package: &Package) -> Result<(),
     Ok(())
 }
 
-fn put_id(alloc: Global, out: &mut String, member: &Package) -> Result<(), AllocError>
+fn put_id(alloc: Global, out: &mut String, member: &SharedPackage) -> Result<(), AllocError>
     ensures { OnOk result (string_bytes out.new ≡ string_bytes out.old ++ piece_text (alone (id_of member.now))) }
 {
-    let text = member.text(alloc)?;
-    let id = id_text(alloc, text.as_str().as_bytes())?;
+    let id = id_text(alloc, member)?;
     put_fixed(out, id.as_str())
 }
 
@@ -97,10 +96,7 @@ fn put_packages(alloc: Global, out: &mut String, known: &PackageList) -> Result<
 fn put_ids(alloc: Global, out: &mut String, list: &PackageList) -> Result<(), AllocError>
     ensures { OnOk result (string_bytes out.new ≡ string_bytes out.old ++ joined (map (λ p. alone (id_of p)) list.now)) }
 {
-    for i in 0..list.len() {
-        let Some(member) = list.get(i) else {
-            return Ok(());
-        };
+    for member in list.as_slice() {
         put_id(alloc, out, member)?;
     }
     Ok(())

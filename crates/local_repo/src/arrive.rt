@@ -30,7 +30,7 @@ use ap_text::{Name, SafePath};
 use control_stanza::Text;
 use machine_state::{Arrived, Repo, State, UpdateFault};
 use package_core::Package;
-use package_list::PackageList;
+use package_list::{PackageList, SharedPackage, share};
 use stage_file::Stage;
 use std::alloc::Global;
 use std::rc::Rc;
@@ -40,7 +40,7 @@ fn path_of(
     alloc: Global,
     folder: &SafePath,
     paths: &Paths,
-    one: &Rc<Package>,
+    one: &Rc<SharedPackage>,
 ) -> Result<SafePath, UpdateFault>
     requires { IsSome (get package_cmp paths.now one.now.value) }
     ensures path { IfOk result (λ path. path ≡ below_folder folder.now (path_at paths.now one.now.value)) }
@@ -63,7 +63,7 @@ fn take_next<H: Host, I: Inbox>(
     files: &KnownFiles,
     folder: &SafePath,
     paths: &Paths,
-    one: &Rc<Package>,
+    one: &Rc<SharedPackage>,
 ) -> Result<Package, UpdateFault>
     requires files { (q : List ℕ) → file_of files.now q ≡ known_of known.now q }
     requires path { IsSome (get package_cmp paths.now one.now.value) }
@@ -77,7 +77,16 @@ fn take_next<H: Host, I: Inbox>(
     ensures input { CauseOf InboxFault (I.faults inbox.old) (I.faults inbox.new) result }
 {
     let path = path_of(alloc, folder, paths, one)?;
-    take_one(alloc, host, stage, inbox, known, files, &path, one.as_ref())
+    take_one(
+        alloc,
+        host,
+        stage,
+        inbox,
+        known,
+        files,
+        &path,
+        one.as_ref().package(),
+    )
 }
 
 /// Takes in the files of the packages of an index, one after the other.
@@ -105,7 +114,7 @@ fn take_all<H: Host, I: Inbox>(
     let mut taken = Vec::with_capacity(alloc, list.len())?;
     for one in list.as_slice() {
         let next = take_next(alloc, host, stage, inbox, known, &files, folder, paths, one)?;
-        taken.push(Rc::new(alloc, next)?)?;
+        taken.push(share(alloc, next)?)?;
     }
     Ok(PackageList::from_ascending(taken))
 }

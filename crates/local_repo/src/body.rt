@@ -111,7 +111,7 @@ fn made<H: Host, I: Inbox>(
     ensures input { CauseOf InboxFault (I.faults inbox.old) (I.faults inbox.new) result }
 {
     match files.get(&one.said.sha256) {
-        Some(known) => reused(alloc, path, one, known.as_ref()),
+        Some(known) => reused(alloc, path, one, known.as_ref().package()),
         None => fetched(alloc, host, stage, inbox, path, one),
     }
 }

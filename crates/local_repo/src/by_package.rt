@@ -2,6 +2,7 @@
 ghost use Rattle.std.specs.Prelude.{◌≡◌};
 
 use package_core::{Package, compare_packages};
+use package_list::SharedPackage;
 use std::cmp::Ordering;
 use std::marker::Model;
 use std::rc::Rc;
@@ -9,7 +10,7 @@ use std::rc::Rc;
 /// A package, seen as itself, by the order of packages.
 #[derive(Drop)]
 pub(crate) struct ByPackage {
-    shared: Rc<Package>,
+    shared: Rc<SharedPackage>,
 }
 
 impl Model for ByPackage {
@@ -22,7 +23,7 @@ impl Model for ByPackage {
 }
 
 impl ByPackage {
-    pub(crate) fn new(shared: Rc<Package>) -> ByPackage
+    pub(crate) fn new(shared: Rc<SharedPackage>) -> ByPackage
         ensures { result ≡ shared.value }
     {
         ByPackage { shared }
@@ -31,7 +32,7 @@ impl ByPackage {
     fn package(&self) -> &Package
         ensures { result.now ≡ self.now }
     {
-        self.shared.as_ref()
+        self.shared.as_ref().package()
     }
 }
 

@@ -12,25 +12,23 @@ ghost use Rattle.local_repo.specs.Answers.{Gives, IsOwnFault};
 
 use crate::fault::{of_list, over};
 use machine_state::{Limit, Repo, UpdateFault};
-use package_core::Package;
-use package_list::PackageList;
+use package_list::{PackageList, SharedPackage};
 use std::alloc::{AllocError, Global};
 use std::rc::Rc;
 
 /// Whether the texts of these packages together are longer than the catalogue may be.
-fn is_too_long(alloc: Global, packages: &[Rc<Package>]) -> Result<bool, AllocError>
-    ensures { IfOk result (λ long. long ≡ nat_lt (limit_number Catalogue) (text_length (map rc_value packages.now))) }
+fn is_too_long(packages: &[Rc<SharedPackage>]) -> bool
+    ensures { result ≡ nat_lt (limit_number Catalogue) (text_length (map rc_value packages.now)) }
 {
     let mut left = Limit::Catalogue.number();
     for package in packages {
-        let text = package.as_ref().text(alloc)?;
-        let length = text.as_str().len() as u64;
+        let length = package.as_ref().text_len() as u64;
         if length > left {
-            return Ok(true);
+            return true;
         }
         left -= length;
     }
-    Ok(false)
+    false
 }
 
 /// The list of a repository, or the empty one.
@@ -81,7 +79,7 @@ fn check_known(alloc: Global, known: &PackageList, list: &PackageList) -> Result
     ensures fault { IfErr result IsOwnFault }
 {
     let all = known_with(alloc, known, list)?;
-    if is_too_long(alloc, all.as_slice())? {
+    if is_too_long(all.as_slice()) {
         return Err(over(Limit::Catalogue));
     }
     Ok(())

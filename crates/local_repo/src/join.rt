@@ -14,7 +14,7 @@ use crate::fault::of_list;
 use ap_text::SafePath;
 use machine_state::{Limit, UpdateFault};
 use package_core::Package;
-use package_list::PackageList;
+use package_list::{PackageList, SharedPackage, share};
 use std::alloc::{AllocError, Global};
 use std::collections::BTreeMap;
 use std::rc::Rc;
@@ -37,14 +37,14 @@ fn note_path(paths: &mut Paths, one: ByPackage, path: SafePath) -> Result<(), Al
 pub(crate) fn split(
     alloc: Global,
     entries: Vec<(Package, SafePath)>,
-) -> Result<(Vec<Rc<Package>>, Paths), AllocError>
+) -> Result<(Vec<Rc<SharedPackage>>, Paths), AllocError>
     ensures packages { IfOk result (λ made. map rc_value made.0.items ≡ cards_of entries.items) }
     ensures paths { IfOk result (λ made. (q : Card) → get package_cmp made.1 q ≡ entry_for entries.items q) }
 {
     let mut packages = Vec::with_capacity(alloc, entries.len())?;
     let mut paths = BTreeMap::new(alloc);
     for (package, path) in entries {
-        let package = Rc::new(alloc, package)?;
+        let package = share(alloc, package)?;
         note_path(&mut paths, ByPackage::new(package.clone()?), path)?;
         packages.push(package)?;
     }
@@ -52,7 +52,10 @@ pub(crate) fn split(
 }
 
 /// The packages of an index, joined in its order.
-pub(crate) fn join(alloc: Global, packages: &[Rc<Package>]) -> Result<PackageList, UpdateFault>
+pub(crate) fn join(
+    alloc: Global,
+    packages: &[Rc<SharedPackage>],
+) -> Result<PackageList, UpdateFault>
     ensures answer { Gives result (or_refused Packages (join_answer (map rc_value packages.now))) }
     ensures fault { IfErr result IsOwnFault }
 {

@@ -8,19 +8,19 @@ ghost use Rattle.local_repo.specs.Files.{file_of};
 
 use digest_set::Digests;
 use package_core::Package;
-use package_list::PackageList;
+use package_list::{PackageList, SharedPackage};
 use std::alloc::{AllocError, Global};
 use std::collections::BTreeMap;
 use std::rc::Rc;
 
 /// For each SHA-256 the first known package, in the order of packages, whose file has it.
-pub(crate) type KnownFiles = BTreeMap<[u8; 32], Rc<Package>>;
+pub(crate) type KnownFiles = BTreeMap<[u8; 32], Rc<SharedPackage>>;
 
 /// Notes a package for its file, unless one was there before it.
-fn note_file(files: &mut KnownFiles, one: &Rc<Package>) -> Result<(), AllocError>
+fn note_file(files: &mut KnownFiles, one: &Rc<SharedPackage>) -> Result<(), AllocError>
     ensures { OnOk result ((q : List ℕ) → file_of files.new q ≡ file_in (file_of files.old q) one.now.value q) }
 {
-    let sha256 = one.as_ref().said.sha256;
+    let sha256 = one.as_ref().package().said.sha256;
     if files.contains_key(&sha256) {
         return Ok(());
     }

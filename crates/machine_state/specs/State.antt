@@ -1,11 +1,11 @@
 -- Which states are valid.
-use Rattle.std.specs.Prelude.{◌≡◌, ◌≤◌, ℕ, ◌+◌, ◌-◌, Bool, not, ◌&&◌, ◌==◌, nat_le, List, [], ◌∷◌, length, slice_index, Option, Some, IsTrue, IsFalse, IfSome, All, find, codes}
+use Rattle.std.specs.Prelude.{◌≡◌, ◌≤◌, ℕ, ◌+◌, ◌-◌, Bool, not, ◌&&◌, ◌==◌, nat_le, List, [], ◌∷◌, length, slice_index, Option, Some, IsTrue, IsFalse, IfSome, All, find}
 use Rattle.std.specs.List.{list_all}
 use Rattle.std.specs.Str.{IsUtf8, bytes_eq}
 use Rattle.std.specs.Ordering.{nat_cmp}
 use Rattle.std.specs.Cmp.Lexicographic.{slice_cmp}
 use Rattle.std.specs.declared.cmp.Ordering.{Ordering}
-use Rattle.ap_text.specs.Names.{is_name}
+use Rattle.ap_text.specs.Names.{is_name, is_component}
 use Rattle.package_core.specs.Card.{Card, package_text}
 use Rattle.package_core.specs.Whole.{IsWhole}
 use Rattle.package_core.specs.Order.{package_cmp}
@@ -30,10 +30,6 @@ is_line text = nat_le (length text) 200 && list_all is_line_byte text && not (sl
 pub record IsLineText (text : List ℕ) : Type 0 where
   pub line : IsTrue (is_line text)
   pub utf8 : IsUtf8 text
-
--- the name of a component: any but `Release`
-abbrev pub is_component : List ℕ → Bool
-is_component name = is_name name && not (bytes_eq name (codes "Release"))
 
 -- the settings of a repository are as they have to be
 pub record IsRepo (repo : Repo) : Type 0 where

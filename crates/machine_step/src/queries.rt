@@ -78,7 +78,7 @@ fn found_in(alloc: Global, list: &PackageList, asked: &Prepared) -> Result<Packa
     list.members_ascend();
     let mut found = Vec::new(alloc);
     for candidate in list.as_slice() {
-        if asked.matches(alloc, candidate)? {
+        if asked.matches(alloc, candidate.package())? {
             found.push(candidate.clone()?)?;
         }
     }

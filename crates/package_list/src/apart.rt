@@ -12,6 +12,7 @@ ghost use Rattle.package_list.specs.Answers.{Answers, FaultIs, first_clash, conf
 use crate::fault::ListFault;
 use crate::join::{append_items, first_and_rest, push_copy};
 use crate::place::{first_has_triple, last_has_triple};
+use crate::shared::{SharedPackage, package_of};
 use package_core::{Package, compare_packages};
 use std::alloc::Global;
 use std::cmp::Ordering;
@@ -21,9 +22,9 @@ use std::rc::Rc;
 /// clashes with a member of the union.
 pub(crate) fn apart_union_of(
     alloc: Global,
-    xs: &[Rc<Package>],
-    ys: &[Rc<Package>],
-) -> Result<Vec<Rc<Package>>, ListFault>
+    xs: &[Rc<SharedPackage>],
+    ys: &[Rc<SharedPackage>],
+) -> Result<Vec<Rc<SharedPackage>>, ListFault>
     requires first { IsAscending package_cmp (map rc_value xs.now) }
     requires second { IsAscending package_cmp (map rc_value ys.now) }
     ensures { MatchResult result (λ v. (first_clash (union (map rc_value xs.now) (map rc_value ys.now)) (map rc_value ys.now) ≡ None) × (map rc_value v.items ≡ union (map rc_value xs.now) (map rc_value ys.now))) (λ e. (answer : Result (Unit {0}) ListFault) → FaultIs e (conflict_or (first_clash (union (map rc_value xs.now) (map rc_value ys.now)) (map rc_value ys.now)) answer)) }
@@ -34,21 +35,21 @@ pub(crate) fn apart_union_of(
     while let Some((y, ys)) = first_and_rest(right) {
         match first_and_rest(left) {
             None => {
-                check_apart(alloc, &all, left, ys, y.as_ref())?;
+                check_apart(alloc, &all, left, ys, package_of(y))?;
                 push_copy(&mut all, y)?;
                 right = ys;
             }
-            Some((x, xs)) => match compare_packages(x.as_ref(), y.as_ref()) {
+            Some((x, xs)) => match compare_packages(package_of(x), package_of(y)) {
                 Ordering::Less => {
                     push_copy(&mut all, x)?;
                     left = xs;
                 }
                 Ordering::Equal => {
-                    check_apart(alloc, &all, xs, ys, y.as_ref())?;
+                    check_apart(alloc, &all, xs, ys, package_of(y))?;
                     right = ys;
                 }
                 Ordering::Greater => {
-                    check_apart(alloc, &all, left, ys, y.as_ref())?;
+                    check_apart(alloc, &all, left, ys, package_of(y))?;
                     push_copy(&mut all, y)?;
                     right = ys;
                 }
@@ -62,9 +63,9 @@ pub(crate) fn apart_union_of(
 /// A conflict where the package clashes with a member of the three lists: the one before it and the two behind it.
 fn check_apart(
     alloc: Global,
-    before: &[Rc<Package>],
-    left: &[Rc<Package>],
-    right: &[Rc<Package>],
+    before: &[Rc<SharedPackage>],
+    left: &[Rc<SharedPackage>],
+    right: &[Rc<SharedPackage>],
     one: &Package,
 ) -> Result<(), ListFault>
     requires { IsBetween package_cmp (map rc_value before.now) (map rc_value left.now) (map rc_value right.now) one.now }
@@ -78,9 +79,9 @@ fn check_apart(
 
 /// Whether the package clashes: then the last of the list before it, or the first of one behind it, has its triple.
 fn clashes_beside(
-    before: &[Rc<Package>],
-    left: &[Rc<Package>],
-    right: &[Rc<Package>],
+    before: &[Rc<SharedPackage>],
+    left: &[Rc<SharedPackage>],
+    right: &[Rc<SharedPackage>],
     one: &Package,
 ) -> bool
     requires { IsBetween package_cmp (map rc_value before.now) (map rc_value left.now) (map rc_value right.now) one.now }
@@ -89,7 +90,7 @@ fn clashes_beside(
     ends_in_clash(before, one) || begins_in_clash(left, one) || begins_in_clash(right, one)
 }
 
-fn ends_in_clash(before: &[Rc<Package>], one: &Package) -> bool
+fn ends_in_clash(before: &[Rc<SharedPackage>], one: &Package) -> bool
     requires ascending { IsAscending package_cmp (map rc_value before.now) }
     requires less { AllLess package_cmp (map rc_value before.now) one.now }
     ensures { result ≡ clashes (map rc_value before.now) one.now }
@@ -97,7 +98,7 @@ fn ends_in_clash(before: &[Rc<Package>], one: &Package) -> bool
     last_has_triple(before, before.len(), one)
 }
 
-fn begins_in_clash(behind: &[Rc<Package>], one: &Package) -> bool
+fn begins_in_clash(behind: &[Rc<SharedPackage>], one: &Package) -> bool
     requires ascending { IsAscending package_cmp (map rc_value behind.now) }
     requires above { IsBelow package_cmp one.now (map rc_value behind.now) }
     ensures { result ≡ clashes (map rc_value behind.now) one.now }

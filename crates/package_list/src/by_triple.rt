@@ -1,6 +1,7 @@
 //! A package that is looked up by its name, architecture and version.
 ghost use Rattle.std.specs.Prelude.{◌≡◌};
 
+use crate::shared::{SharedPackage, package_of};
 use package_core::{Package, compare_packages, has_same_triple};
 use std::cmp::Ordering;
 use std::marker::Model;
@@ -9,7 +10,7 @@ use std::rc::Rc;
 /// A package, seen as itself, of which a set has one for each triple of name, architecture and version.
 #[derive(Drop)]
 pub(crate) struct ByTriple {
-    shared: Rc<Package>,
+    shared: Rc<SharedPackage>,
 }
 
 impl Model for ByTriple {
@@ -22,7 +23,7 @@ impl Model for ByTriple {
 }
 
 impl ByTriple {
-    pub(crate) fn new(shared: Rc<Package>) -> ByTriple
+    pub(crate) fn new(shared: Rc<SharedPackage>) -> ByTriple
         ensures { result ≡ shared.value }
     {
         ByTriple { shared }
@@ -31,10 +32,10 @@ impl ByTriple {
     pub(crate) fn package(&self) -> &Package
         ensures { result.now ≡ self.now }
     {
-        self.shared.as_ref()
+        package_of(&self.shared)
     }
 
-    pub(crate) fn into_shared(self) -> Rc<Package>
+    pub(crate) fn into_shared(self) -> Rc<SharedPackage>
         ensures { result.value ≡ self }
     {
         self.shared

@@ -11,18 +11,22 @@ ghost use Rattle.package_list.specs.Answers.{Answers, FaultIs, insert_answer, jo
 use crate::by_triple::ByTriple;
 use crate::fault::ListFault;
 use crate::list::MOST_MEMBERS;
+use crate::shared::{SharedPackage, share};
 use package_core::{Package, compare_packages};
 use std::alloc::{AllocError, Global};
 use std::collections::BTreeSet;
 use std::rc::Rc;
 
-/// The same packages, to be shared.
-pub(crate) fn shared(alloc: Global, packages: Vec<Package>) -> Result<Vec<Rc<Package>>, AllocError>
+/// The same packages, shared.
+pub(crate) fn share_all(
+    alloc: Global,
+    packages: Vec<Package>,
+) -> Result<Vec<Rc<SharedPackage>>, AllocError>
     ensures { IfOk result (λ v. map rc_value v.items ≡ packages.items) }
 {
     let mut shared = Vec::with_capacity(alloc, packages.len())?;
     for package in packages {
-        shared.push(Rc::new(alloc, package)?)?;
+        shared.push(share(alloc, package)?)?;
     }
     Ok(shared)
 }
@@ -30,7 +34,7 @@ pub(crate) fn shared(alloc: Global, packages: Vec<Package>) -> Result<Vec<Rc<Pac
 /// The members that the packages come to, put in one after the other.
 pub(crate) fn gathered(
     alloc: Global,
-    packages: &[Rc<Package>],
+    packages: &[Rc<SharedPackage>],
 ) -> Result<BTreeSet<ByTriple>, ListFault>
     ensures { MatchResult result (λ members. join_answer (map rc_value packages.now) ≡ Ok members.keys) (λ e. FaultIs e (join_answer (map rc_value packages.now))) }
 {
@@ -75,7 +79,7 @@ fn check_equal(alloc: Global, member: &Package, new: &Package) -> Result<bool, L
 pub(crate) fn items_of(
     alloc: Global,
     members: BTreeSet<ByTriple>,
-) -> Result<Vec<Rc<Package>>, AllocError>
+) -> Result<Vec<Rc<SharedPackage>>, AllocError>
     ensures { IfOk result (λ v. map rc_value v.items ≡ members.keys) }
 {
     let mut items = Vec::with_capacity(alloc, members.len())?;

@@ -5,7 +5,8 @@ ghost use Rattle.package_core.specs.Order.{package_cmp};
 ghost use Rattle.package_list.specs.Sorted.{IsAscending};
 ghost use Rattle.package_list.specs.Lists.{union};
 
-use package_core::{Package, compare_packages};
+use crate::shared::{SharedPackage, package_of};
+use package_core::compare_packages;
 use std::alloc::{AllocError, Global};
 use std::cmp::Ordering;
 use std::rc::Rc;
@@ -13,9 +14,9 @@ use std::rc::Rc;
 /// All of both lists, shared; of two equals the one of the first list.
 pub(crate) fn union_of(
     alloc: Global,
-    xs: &[Rc<Package>],
-    ys: &[Rc<Package>],
-) -> Result<Vec<Rc<Package>>, AllocError>
+    xs: &[Rc<SharedPackage>],
+    ys: &[Rc<SharedPackage>],
+) -> Result<Vec<Rc<SharedPackage>>, AllocError>
     requires first { IsAscending package_cmp (map rc_value xs.now) }
     requires second { IsAscending package_cmp (map rc_value ys.now) }
     ensures members { IfOk result (λ v. map rc_value v.items ≡ union (map rc_value xs.now) (map rc_value ys.now)) }
@@ -28,9 +29,9 @@ pub(crate) fn union_of(
 /// The union by one cursor in each list. The first list's order isn't needed for what it gives.
 pub(crate) fn one_pass(
     alloc: Global,
-    xs: &[Rc<Package>],
-    ys: &[Rc<Package>],
-) -> Result<Vec<Rc<Package>>, AllocError>
+    xs: &[Rc<SharedPackage>],
+    ys: &[Rc<SharedPackage>],
+) -> Result<Vec<Rc<SharedPackage>>, AllocError>
     requires { IsAscending package_cmp (map rc_value ys.now) }
     ensures { IfOk result (λ v. map rc_value v.items ≡ union (map rc_value xs.now) (map rc_value ys.now)) }
 {
@@ -43,7 +44,7 @@ pub(crate) fn one_pass(
                 push_copy(&mut all, y)?;
                 right = ys;
             }
-            Some((x, xs)) => match compare_packages(x.as_ref(), y.as_ref()) {
+            Some((x, xs)) => match compare_packages(package_of(x), package_of(y)) {
                 Ordering::Less => {
                     push_copy(&mut all, x)?;
                     left = xs;
@@ -65,8 +66,8 @@ pub(crate) fn one_pass(
 /// The same members, shared.
 pub(crate) fn copy_items(
     alloc: Global,
-    items: &[Rc<Package>],
-) -> Result<Vec<Rc<Package>>, AllocError>
+    items: &[Rc<SharedPackage>],
+) -> Result<Vec<Rc<SharedPackage>>, AllocError>
     ensures { IfOk result (λ v. map rc_value v.items ≡ map rc_value items.now) }
 {
     let mut copies = Vec::new(alloc);
@@ -76,7 +77,10 @@ pub(crate) fn copy_items(
     Ok(copies)
 }
 
-pub(crate) fn push_copy(all: &mut Vec<Rc<Package>>, item: &Rc<Package>) -> Result<(), AllocError>
+pub(crate) fn push_copy(
+    all: &mut Vec<Rc<SharedPackage>>,
+    item: &Rc<SharedPackage>,
+) -> Result<(), AllocError>
     ensures { OnOk result (map rc_value all.new.items ≡ map rc_value all.old.items ++ item.now.value ∷ []) }
 {
     all.push(item.clone()?)?;
@@ -84,8 +88,8 @@ pub(crate) fn push_copy(all: &mut Vec<Rc<Package>>, item: &Rc<Package>) -> Resul
 }
 
 pub(crate) fn append_items(
-    all: &mut Vec<Rc<Package>>,
-    items: &[Rc<Package>],
+    all: &mut Vec<Rc<SharedPackage>>,
+    items: &[Rc<SharedPackage>],
 ) -> Result<(), AllocError>
     ensures { OnOk result (map rc_value all.new.items ≡ map rc_value all.old.items ++ map rc_value items.now) }
 {

@@ -11,7 +11,9 @@ mod list;
 mod place;
 mod push;
 mod reduce;
+mod shared;
 
 pub use fault::ListFault;
 pub use laws::{packages_join_in_turn, unions_have_what_either_has};
 pub use list::{MOST_KNOWN, MOST_MEMBERS, PackageList};
+pub use shared::{SharedPackage, share};

@@ -10,11 +10,12 @@ ghost use Rattle.package_list.specs.Answers.{Answers, insert_answer, append_answ
 
 use crate::apart::apart_union_of;
 use crate::fault::ListFault;
-use crate::gather::{gathered, items_of, shared};
+use crate::gather::{gathered, items_of, share_all};
 use crate::join::{copy_items, union_of};
 use crate::place::{clashes_at, equal_in, found_at, is_at, place_of};
-use crate::push::{push_onto, push_shared};
+use crate::push::{push_apart, push_onto};
 use crate::reduce::{latest_of, merge_of};
+use crate::shared::{SharedPackage, package_of, share};
 use package_core::Package;
 use std::alloc::{AllocError, Global};
 use std::marker::Model;
@@ -30,7 +31,7 @@ pub const MOST_KNOWN: usize = 400_000;
 /// a copy of a list copies no stanza.
 #[derive(Drop)]
 pub struct PackageList {
-    items: Vec<Rc<Package>>,
+    items: Vec<Rc<SharedPackage>>,
 }
 
 impl Model for PackageList {
@@ -66,7 +67,7 @@ impl PackageList {
     }
 
     /// The list of these packages, which stand in their order, no two of them equal. They are shared.
-    pub fn from_ascending(packages: Vec<Rc<Package>>) -> PackageList
+    pub fn from_ascending(packages: Vec<Rc<SharedPackage>>) -> PackageList
         requires { IsAscending package_cmp (map rc_value packages.items) }
         ensures { result ≡ map rc_value packages.items }
     {
@@ -79,12 +80,15 @@ impl PackageList {
     pub fn from_packages(alloc: Global, packages: Vec<Package>) -> Result<PackageList, ListFault>
         ensures { Answers result (join_answer packages.items) }
     {
-        let packages = shared(alloc, packages)?;
+        let packages = share_all(alloc, packages)?;
         PackageList::from_shared(alloc, &packages)
     }
 
     /// The same of packages that are shared already, and go on being so.
-    pub fn from_shared(alloc: Global, packages: &[Rc<Package>]) -> Result<PackageList, ListFault>
+    pub fn from_shared(
+        alloc: Global,
+        packages: &[Rc<SharedPackage>],
+    ) -> Result<PackageList, ListFault>
         ensures { Answers result (join_answer (map rc_value packages.now)) }
     {
         let members = gathered(alloc, packages)?;
@@ -105,13 +109,13 @@ impl PackageList {
         ensures { MatchOption result (length self.now ≤ i) (λ p. slice_get self.now i ≡ Some p.now) }
     {
         match self.items.get(i) {
-            Some(rc) => Some(rc.as_ref()),
+            Some(rc) => Some(package_of(rc)),
             None => None,
         }
     }
 
     /// All members in their order, shared, for a loop over them.
-    pub fn as_slice(&self) -> &[Rc<Package>]
+    pub fn as_slice(&self) -> &[Rc<SharedPackage>]
         ensures { map rc_value result.now ≡ self.now }
     {
         self.items.as_slice()
@@ -159,7 +163,17 @@ impl PackageList {
         ensures list { IfOk result (λ done. self.new ≡ (if done then self.old ++ new ∷ [] else self.old)) }
         ensures err { OnErr result (self.new ≡ self.old) }
     {
-        push_onto(alloc, &mut self.items, new)
+        let new = share(alloc, new)?;
+        self.push_shared(new)
+    }
+
+    /// The same of a package that is shared already. No text of it is made.
+    pub fn push_shared(&mut self, new: Rc<SharedPackage>) -> Result<bool, AllocError>
+        ensures answer { IfOk result (λ done. IsTrue done ↔ AllLess package_cmp self.old new.value) }
+        ensures list { IfOk result (λ done. self.new ≡ (if done then self.old ++ new.value ∷ [] else self.old)) }
+        ensures err { OnErr result (self.new ≡ self.old) }
+    {
+        push_onto(&mut self.items, new)
     }
 
     /// Puts the member at a place of another list behind all members, shared, however many they are. False exactly where
@@ -170,7 +184,7 @@ impl PackageList {
         ensures list { (p : Card) → slice_get other.now place ≡ Some p → IfOk result (λ done. self.new ≡ (if done then self.old ++ p ∷ [] else self.old)) }
         ensures err { OnErr result (self.new ≡ self.old) }
     {
-        push_shared(&mut self.items, &other.items[place])
+        push_apart(&mut self.items, &other.items[place])
     }
 
     /// Takes out the equal of the package, and tells whether there was one. It takes no memory.
@@ -244,7 +258,11 @@ impl PackageList {
     }
 }
 
-fn insert_into(alloc: Global, items: &mut Vec<Rc<Package>>, new: Package) -> Result<bool, ListFault>
+fn insert_into(
+    alloc: Global,
+    items: &mut Vec<Rc<SharedPackage>>,
+    new: Package,
+) -> Result<bool, ListFault>
     requires { IsAscending package_cmp (map rc_value items.old.items) }
     ensures answer { Answers result (insert_answer (map rc_value items.old.items) new) }
     ensures ok { OnOk result (map rc_value items.new.items ≡ put package_cmp (map rc_value items.old.items) new) }
@@ -260,12 +278,12 @@ fn insert_into(alloc: Global, items: &mut Vec<Rc<Package>>, new: Package) -> Res
     if items.len() >= MOST_MEMBERS {
         return Err(ListFault::Full);
     }
-    let new = Rc::new(alloc, new)?;
+    let new = share(alloc, new)?;
     items.insert(place, new)?;
     Ok(true)
 }
 
-fn remove_from(items: &mut Vec<Rc<Package>>, gone: &Package) -> bool
+fn remove_from(items: &mut Vec<Rc<SharedPackage>>, gone: &Package) -> bool
     requires { IsAscending package_cmp (map rc_value items.old.items) }
     ensures found { result ≡ has_member (map rc_value items.old.items) gone.now }
     ensures list { map rc_value items.new.items ≡ without (map rc_value items.old.items) (gone.now ∷ []) }

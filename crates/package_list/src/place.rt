@@ -6,11 +6,12 @@ ghost use Rattle.std.specs.Option.{option_copied};
 ghost use Rattle.package_list.specs.Sorted.{IsAscending, AllLess, StartsAt, first_is, last_is, equal_of};
 ghost use Rattle.package_list.specs.Lists.{has_member, clashes, without};
 
+use crate::shared::{SharedPackage, package_of};
 use package_core::{Package, compare_packages, has_same_triple};
 use std::rc::Rc;
 
 /// The first place whose member isn't less than the package.
-pub(crate) fn place_of(items: &[Rc<Package>], wanted: &Package) -> usize
+pub(crate) fn place_of(items: &[Rc<SharedPackage>], wanted: &Package) -> usize
     requires { IsAscending package_cmp (map rc_value items.now) }
     ensures inside { result ≤ length items.now }
     ensures before { AllLess package_cmp (take result (map rc_value items.now)) wanted.now }
@@ -20,7 +21,7 @@ pub(crate) fn place_of(items: &[Rc<Package>], wanted: &Package) -> usize
     let mut high = items.len();
     while low < high {
         let middle = low + (high - low) / 2;
-        if compare_packages(items[middle].as_ref(), wanted).is_lt() {
+        if compare_packages(package_of(&items[middle]), wanted).is_lt() {
             low = middle + 1;
         } else {
             high = middle;
@@ -30,18 +31,18 @@ pub(crate) fn place_of(items: &[Rc<Package>], wanted: &Package) -> usize
 }
 
 /// The member at a place.
-fn member_at(items: &[Rc<Package>], place: usize) -> Option<&Package>
+fn member_at(items: &[Rc<SharedPackage>], place: usize) -> Option<&Package>
     ensures { MatchOption result (drop place (map rc_value items.now) ≡ []) (λ p. drop place (map rc_value items.now) ≡ p.now ∷ drop (place + 1) (map rc_value items.now)) }
 {
     if place < items.len() {
-        Some(items[place].as_ref())
+        Some(package_of(&items[place]))
     } else {
         None
     }
 }
 
 /// Whether an equal stands at the place of the package.
-pub(crate) fn is_at(items: &[Rc<Package>], place: usize, wanted: &Package) -> bool
+pub(crate) fn is_at(items: &[Rc<SharedPackage>], place: usize, wanted: &Package) -> bool
     requires ascending { IsAscending package_cmp (map rc_value items.now) }
     requires before { AllLess package_cmp (take place (map rc_value items.now)) wanted.now }
     requires behind { StartsAt package_cmp (drop place (map rc_value items.now)) wanted.now }
@@ -54,7 +55,7 @@ pub(crate) fn is_at(items: &[Rc<Package>], place: usize, wanted: &Package) -> bo
 }
 
 /// The place of the package's equal.
-pub(crate) fn found_at(items: &[Rc<Package>], wanted: &Package) -> Option<usize>
+pub(crate) fn found_at(items: &[Rc<SharedPackage>], wanted: &Package) -> Option<usize>
     requires { IsAscending package_cmp (map rc_value items.now) }
     ensures inside { MatchOption result (Unit {0}) (λ place. place < length items.now) }
     ensures found { MatchOption result (has_member (map rc_value items.now) wanted.now ≡ false) (λ place. has_member (map rc_value items.now) wanted.now ≡ true) }
@@ -69,7 +70,7 @@ pub(crate) fn found_at(items: &[Rc<Package>], wanted: &Package) -> Option<usize>
 }
 
 /// The member that is equal to the package.
-pub(crate) fn equal_in<'a>(items: &'a [Rc<Package>], wanted: &Package) -> Option<&'a Package>
+pub(crate) fn equal_in<'a>(items: &'a [Rc<SharedPackage>], wanted: &Package) -> Option<&'a Package>
     requires { IsAscending package_cmp (map rc_value items.now) }
     ensures { option_copied result ≡ equal_of package_cmp (map rc_value items.now) wanted.now }
 {
@@ -87,7 +88,7 @@ pub(crate) fn equal_in<'a>(items: &'a [Rc<Package>], wanted: &Package) -> Option
 }
 
 /// Whether a member clashes with a package that has no equal. Those of its triple stand beside its place.
-pub(crate) fn clashes_at(items: &[Rc<Package>], place: usize, wanted: &Package) -> bool
+pub(crate) fn clashes_at(items: &[Rc<SharedPackage>], place: usize, wanted: &Package) -> bool
     requires inside { place ≤ length items.now }
     requires ascending { IsAscending package_cmp (map rc_value items.now) }
     requires before { AllLess package_cmp (take place (map rc_value items.now)) wanted.now }
@@ -98,7 +99,7 @@ pub(crate) fn clashes_at(items: &[Rc<Package>], place: usize, wanted: &Package) 
     last_has_triple(items, place, wanted) || first_has_triple(items, place, wanted)
 }
 
-pub(crate) fn first_has_triple(items: &[Rc<Package>], place: usize, wanted: &Package) -> bool
+pub(crate) fn first_has_triple(items: &[Rc<SharedPackage>], place: usize, wanted: &Package) -> bool
     ensures { result ≡ first_is (λ q. same_triple q wanted.now) (drop place (map rc_value items.now)) }
 {
     match member_at(items, place) {
@@ -107,7 +108,7 @@ pub(crate) fn first_has_triple(items: &[Rc<Package>], place: usize, wanted: &Pac
     }
 }
 
-pub(crate) fn last_has_triple(items: &[Rc<Package>], place: usize, wanted: &Package) -> bool
+pub(crate) fn last_has_triple(items: &[Rc<SharedPackage>], place: usize, wanted: &Package) -> bool
     requires { place ≤ length items.now }
     ensures { result ≡ last_is (λ q. same_triple q wanted.now) (take place (map rc_value items.now)) }
 {

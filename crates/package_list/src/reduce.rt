@@ -7,6 +7,7 @@ ghost use Rattle.package_list.specs.Order.{key_cmp};
 ghost use Rattle.package_list.specs.Lists.{has_key, has_greater, greatest, merged, latest};
 
 use crate::join::{append_items, first_and_rest, one_pass, push_copy, union_of};
+use crate::shared::{SharedPackage, package_of};
 use package_core::Package;
 use std::alloc::{AllocError, Global};
 use std::cmp::Ordering;
@@ -27,9 +28,9 @@ fn compare_keys(a: &Package, b: &Package) -> Ordering
 /// The members whose name and architecture no member of the other list has, shared. One pass over both.
 pub(crate) fn without_keys(
     alloc: Global,
-    xs: &[Rc<Package>],
-    ys: &[Rc<Package>],
-) -> Result<Vec<Rc<Package>>, AllocError>
+    xs: &[Rc<SharedPackage>],
+    ys: &[Rc<SharedPackage>],
+) -> Result<Vec<Rc<SharedPackage>>, AllocError>
     requires first { IsAscending package_cmp (map rc_value xs.now) }
     requires second { IsAscending package_cmp (map rc_value ys.now) }
     ensures { IfOk result (λ v. map rc_value v.items ≡ filter (λ x. not (has_key (map rc_value ys.now) x)) (map rc_value xs.now)) }
@@ -42,7 +43,7 @@ pub(crate) fn without_keys(
             None => {
                 return Ok(kept);
             }
-            Some((x, xs)) => match compare_keys(x.as_ref(), y.as_ref()) {
+            Some((x, xs)) => match compare_keys(package_of(x), package_of(y)) {
                 Ordering::Less => {
                     push_copy(&mut kept, x)?;
                     left = xs;
@@ -61,14 +62,17 @@ pub(crate) fn without_keys(
 }
 
 /// The members than which none of the same name and architecture is greater: the last of each such group. Shared.
-pub(crate) fn greatest_of(alloc: Global, xs: &[Rc<Package>]) -> Result<Vec<Rc<Package>>, AllocError>
+pub(crate) fn greatest_of(
+    alloc: Global,
+    xs: &[Rc<SharedPackage>],
+) -> Result<Vec<Rc<SharedPackage>>, AllocError>
     requires { IsAscending package_cmp (map rc_value xs.now) }
     ensures { IfOk result (λ v. map rc_value v.items ≡ greatest (map rc_value xs.now)) }
 {
     let mut kept = Vec::new(alloc);
     let mut left = xs;
     while let Some((x, xs)) = first_and_rest(left) {
-        if goes_on(x.as_ref(), xs) {
+        if goes_on(package_of(x), xs) {
             left = xs;
         } else {
             push_copy(&mut kept, x)?;
@@ -79,12 +83,12 @@ pub(crate) fn greatest_of(alloc: Global, xs: &[Rc<Package>]) -> Result<Vec<Rc<Pa
 }
 
 /// Whether the first of the following members has the package's name and architecture.
-fn goes_on(one: &Package, following: &[Rc<Package>]) -> bool
+fn goes_on(one: &Package, following: &[Rc<SharedPackage>]) -> bool
     requires { IsAscending package_cmp (one.now ∷ map rc_value following.now) }
     ensures { result ≡ has_greater (one.now ∷ map rc_value following.now) one.now }
 {
     match first_and_rest(following) {
-        Some((next, _)) => compare_keys(next.as_ref(), one).is_eq(),
+        Some((next, _)) => compare_keys(package_of(next), one).is_eq(),
         None => false,
     }
 }
@@ -92,9 +96,9 @@ fn goes_on(one: &Package, following: &[Rc<Package>]) -> bool
 /// All of the second list, and of the first the members whose name and architecture the second hasn't.
 pub(crate) fn merge_of(
     alloc: Global,
-    xs: &[Rc<Package>],
-    ys: &[Rc<Package>],
-) -> Result<Vec<Rc<Package>>, AllocError>
+    xs: &[Rc<SharedPackage>],
+    ys: &[Rc<SharedPackage>],
+) -> Result<Vec<Rc<SharedPackage>>, AllocError>
     requires first { IsAscending package_cmp (map rc_value xs.now) }
     requires second { IsAscending package_cmp (map rc_value ys.now) }
     ensures members { IfOk result (λ v. map rc_value v.items ≡ merged (map rc_value xs.now) (map rc_value ys.now)) }
@@ -108,9 +112,9 @@ pub(crate) fn merge_of(
 /// The greatest member of the union for each name and architecture.
 pub(crate) fn latest_of(
     alloc: Global,
-    xs: &[Rc<Package>],
-    ys: &[Rc<Package>],
-) -> Result<Vec<Rc<Package>>, AllocError>
+    xs: &[Rc<SharedPackage>],
+    ys: &[Rc<SharedPackage>],
+) -> Result<Vec<Rc<SharedPackage>>, AllocError>
     requires first { IsAscending package_cmp (map rc_value xs.now) }
     requires second { IsAscending package_cmp (map rc_value ys.now) }
     ensures members { IfOk result (λ v. map rc_value v.items ≡ latest (map rc_value xs.now) (map rc_value ys.now)) }

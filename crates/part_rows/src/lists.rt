@@ -20,9 +20,10 @@ pub fn play(desk: &mut Desk, out: &mut String, call: &str, rest: &str) -> Result
 /// Each member with the size of its file.
 fn put_members(out: &mut String, list: &PackageList) -> Result<(), AllocError> {
     for member in list.as_slice() {
-        let triple = member.triple(*out.allocator())?;
+        let of = member.package();
+        let triple = of.triple(*out.allocator())?;
         put(out, &[" ", triple.as_str()])?;
-        put_at(out, "/", member.said.size)?;
+        put_at(out, "/", of.said.size)?;
     }
     Ok(())
 }
@@ -122,7 +123,7 @@ fn equal(desk: &Desk, out: &mut String, rest: &str) -> Result<(), Stop> {
     let wanted = package_of(desk, rest)?;
     out.push_str(yes_or_no(list.has(&wanted)))?;
     if let Some(member) = list.equal_of(&wanted) {
-        put_at(out, " ", member.said.size)?;
+        put_at(out, " ", of.said.size)?;
     }
     Ok(())
 }

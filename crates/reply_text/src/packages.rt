@@ -7,7 +7,7 @@ ghost use Rattle.reply_text.specs.Replies.{shown_package, package_search as sear
 use crate::put::{put_count, put_triples};
 use control_stanza::Text;
 use package_core::Package;
-use package_list::PackageList;
+use package_list::{PackageList, SharedPackage};
 use std::alloc::{AllocError, Global};
 use std::rc::Rc;
 
@@ -36,12 +36,12 @@ fn put_shown(alloc: Global, out: &mut String, of: &Package) -> Result<(), AllocE
 fn put_all_shown(
     alloc: Global,
     out: &mut String,
-    packages: &[Rc<Package>],
+    packages: &[Rc<SharedPackage>],
 ) -> Result<(), AllocError>
     ensures { OnOk result (string_bytes out.new ≡ string_bytes out.old ++ flat_map shown_package (map rc_value packages.now)) }
 {
     for package_of in packages {
-        put_shown(alloc, out, package_of)?;
+        put_shown(alloc, out, package_of.package())?;
     }
     Ok(())
 }

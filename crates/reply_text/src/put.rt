@@ -7,6 +7,7 @@ ghost use Rattle.reply_text.specs.Replies.{packages_line, triple_line, triple_li
 
 use control_stanza::Text;
 use package_core::Package;
+use package_list::SharedPackage;
 use std::alloc::{AllocError, Global};
 use std::fmt::Write;
 use std::rc::Rc;
@@ -69,12 +70,12 @@ fn put_triple(alloc: Global, out: &mut String, of: &Package) -> Result<(), Alloc
 pub(crate) fn put_triples(
     alloc: Global,
     out: &mut String,
-    packages: &[Rc<Package>],
+    packages: &[Rc<SharedPackage>],
 ) -> Result<(), AllocError>
     ensures { OnOk result (string_bytes out.new ≡ string_bytes out.old ++ triple_lines (map rc_value packages.now)) }
 {
     for package_of in packages {
-        put_triple(alloc, out, package_of)?;
+        put_triple(alloc, out, package_of.package())?;
     }
     Ok(())
 }

@@ -12,8 +12,8 @@ use Rattle.local_repo.proofs.body.made.Goals as goal
 pub returns-in-Some-clause-log : goal.returns-in-Some-clause-log
 returns-in-Some-clause-log g c =
     let sha = c.args.one.now.said.sha256 in
-    let k : Card = c.as_ref.result.now in
-    let is : file_of c.args.files.now sha ≡ Some k = ap (option_map rc_value) (sym c.in-Some.ensures.value) ∙ ap Some (sym c.as_ref.ensures) in
+    let k : Card = c.package.result.now in
+    let is : file_of c.args.files.now sha ≡ Some k = ap (option_map rc_value) (sym c.in-Some.ensures.value) ∙ ap Some (sym (c.package.ensures ∙ c.as_ref.ensures)) in
     GoesOn-none _ _ _ refl (λ l. nothing_adds _ _ (λ f. IfSome (file_of c.args.files.now sha) (HasBody f)) c.reused.result _ l (reuse_needs c.reused.result (file_of c.args.files.now sha) k (live_of l) is c.reused.ensures.body))
 
 pub returns-in-None-clause-log : goal.returns-in-None-clause-log

@@ -12,7 +12,7 @@ pub loop-package-preserved : goal.loop-package-preserved
 loop-package-preserved c =
     let i = c.loop-package.package-index in
     let packages = c.args.packages.now in
-    let size = ap length (c.as_str.ensures ∙ c.in_ok-text.ensures ∙ ap package_text c.as_ref.ensures) in
+    let size = c.text_len-length.ensures ∙ ap (λ (p : Card). length (package_text p)) c.as_ref.ensures in
     let next = text_next rc_value packages i c.package-item.result c.loop-package-test.true c.package-item.is in
     omega (arith, size, next, c.loop-package.invariant, c.if-length-left.false)
 
@@ -20,7 +20,7 @@ pub returns-then-length-left : goal.returns-then-length-left
 returns-then-length-left c =
     let i = c.loop-package.package-index in
     let packages = c.args.packages.now in
-    let size = ap length (c.as_str.ensures ∙ c.in_ok-text.ensures ∙ ap package_text c.as_ref.ensures) in
+    let size = c.text_len-length.ensures ∙ ap (λ (p : Card). length (package_text p)) c.as_ref.ensures in
     let next = text_next rc_value packages i c.package-item.result c.loop-package-test.true c.package-item.is in
     let front = text_front (map rc_value packages) (i + 1) in
     let more : limit_number Catalogue < text_length (map rc_value packages) = omega (arith, size, next, front, c.loop-package.invariant, c.if-length-left.true) in

@@ -7,7 +7,7 @@ use Rattle.package_list.proofs.place.member_at.Goals as goal
 pub returns-then-place-items : goal.returns-then-place-items
 returns-then-place-items c =
     drop_at_member rc_value c.args.items.now c.args.place c.index-items-place.result (omega arith) c.index-items-place.is
-    ∙ ap (λ x. x ∷ drop (c.args.place + 1) (map rc_value c.args.items.now)) (sym c.as_ref.ensures)
+    ∙ ap (λ x. x ∷ drop (c.args.place + 1) (map rc_value c.args.items.now)) (sym c.package_of.ensures)
 
 pub returns-else-place-items : goal.returns-else-place-items
 returns-else-place-items c = drop_all c.args.place (map rc_value c.args.items.now) (omega (arith, length-map c.args.items.now rc_value))

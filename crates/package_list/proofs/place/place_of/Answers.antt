@@ -9,10 +9,10 @@ pub loop-low-preserved-then-is_lt : goal.loop-low-preserved-then-is_lt
 loop-low-preserved-then-is_lt c =
     let middle = c.loop-low.low + (c.loop-low.high - c.loop-low.low) / 2 in
     let items = c.args.items.now in
-    let at = c.as_ref.ensures ∙ ap rc_value c.index-items-middle.is ∙ sym (get_or-map rc_value items middle c.index-items-middle.result c.as_ref.result.now (omega arith)) in
+    let at = c.package_of.ensures ∙ ap rc_value c.index-items-middle.is ∙ sym (get_or-map rc_value items middle c.index-items-middle.result c.package_of.result.now (omega arith)) in
     record {
       inside = omega arith;
-      before = low_step package_total (map rc_value items) middle c.as_ref.result.now c.args.wanted.now c.requires (omega (arith, length-map items rc_value)) at (sym c.compare_packages.ensures ∙ less_from _ (sym c.is_lt.ensures ∙ c.if-is_lt.true));
+      before = low_step package_total (map rc_value items) middle c.package_of.result.now c.args.wanted.now c.requires (omega (arith, length-map items rc_value)) at (sym c.compare_packages.ensures ∙ less_from _ (sym c.is_lt.ensures ∙ c.if-is_lt.true));
       behind = c.loop-low.invariant.behind;
     }
 
@@ -20,12 +20,12 @@ pub loop-low-preserved : goal.loop-low-preserved
 loop-low-preserved c =
     let middle = c.loop-low.low + (c.loop-low.high - c.loop-low.low) / 2 in
     let items = c.args.items.now in
-    let at = c.as_ref.ensures ∙ ap rc_value c.index-items-middle.is ∙ sym (get_or-map rc_value items middle c.index-items-middle.result c.as_ref.result.now (omega arith)) in
+    let at = c.package_of.ensures ∙ ap rc_value c.index-items-middle.is ∙ sym (get_or-map rc_value items middle c.index-items-middle.result c.package_of.result.now (omega arith)) in
     let same = length-map items rc_value in
     record {
       inside = omega arith;
       before = c.loop-low.invariant.before;
-      behind = λ k d le lt. high_step package_total (map rc_value items) middle c.as_ref.result.now c.args.wanted.now c.requires (omega arith) at (λ e. not_less_from _ (sym c.is_lt.ensures ∙ c.if-is_lt.false) (c.compare_packages.ensures ∙ e)) k d le (omega arith);
+      behind = λ k d le lt. high_step package_total (map rc_value items) middle c.package_of.result.now c.args.wanted.now c.requires (omega arith) at (λ e. not_less_from _ (sym c.is_lt.ensures ∙ c.if-is_lt.false) (c.compare_packages.ensures ∙ e)) k d le (omega arith);
     }
 
 pub returns-clause-before : goal.returns-clause-before

@@ -5,5 +5,5 @@ use Rattle.package_list.proofs.push.is_behind.Goals as goal
 
 pub returns-in-Some : goal.returns-in-Some
 returns-in-Some c =
-    behind_by_last _ _ (map rc_value c.args.items.now) (map rc_value c.in-Some.field-0-1.now) c.as_ref.result.now c.args.new.now c.requires
-    (rw c.as_ref.ensures (mapped_push rc_value c.args.items.now _ c.in-Some.last.now c.in-Some.ensures.cases.0)) c.is_lt.ensures c.compare_packages.ensures
+    behind_by_last _ _ (map rc_value c.args.items.now) (map rc_value c.in-Some.field-0-1.now) c.package_of.result.now c.args.new.now c.requires
+    (rw c.package_of.ensures (mapped_push rc_value c.args.items.now _ c.in-Some.last.now c.in-Some.ensures.cases.0)) c.is_lt.ensures c.compare_packages.ensures

@@ -8,7 +8,7 @@ use Rattle.package_list.proofs.reduce.goes_on.Goals as goal
 
 pub returns-in-Some : goal.returns-in-Some
 returns-in-Some c =
-    c.is_eq.ensures ∙ ap is_eq (c.compare_keys.ensures ∙ ap (λ q. key_cmp q c.args.one.now) c.as_ref.ensures)
+    c.is_eq.ensures ∙ ap is_eq (c.compare_keys.ensures ∙ ap (λ q. key_cmp q c.args.one.now) c.package_of.ensures)
     ∙ sym (goes_on_is c.args.one.now (map rc_value c.args.following.now) c.requires ∙ ap (first_is (λ q. is_eq (key_cmp q c.args.one.now))) (ap (map rc_value) c.in-Some.ensures))
 
 pub returns-in-None : goal.returns-in-None
