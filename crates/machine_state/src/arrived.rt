@@ -52,6 +52,20 @@ pub enum UpdateFault {
     OutOfMemory,
 }
 
+impl UpdateFault {
+    /// The same once more. Fails only for want of memory.
+    pub fn copy(&self, alloc: Global) -> Result<UpdateFault, AllocError>
+        ensures { IfOk result (λ made. made ≡ self.now) }
+    {
+        match self {
+            UpdateFault::Refused(refusal) => Ok(UpdateFault::Refused(refusal.copy(alloc)?)),
+            UpdateFault::HostFault => Ok(UpdateFault::HostFault),
+            UpdateFault::InboxFault => Ok(UpdateFault::InboxFault),
+            UpdateFault::OutOfMemory => Ok(UpdateFault::OutOfMemory),
+        }
+    }
+}
+
 impl From<AllocError> for UpdateFault {
     ghost from_gives = { λ _ fault. fault ≡ OutOfMemory };
 

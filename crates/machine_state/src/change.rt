@@ -1,11 +1,11 @@
 //! What a command changes.
-ghost use Rattle.std.specs.Prelude.{◌≡◌};
+ghost use Rattle.std.specs.Prelude.{◌≡◌, IfOk};
 ghost use Rattle.machine_state.specs.declared.change.ChangeFault.TheVariants.{OutOfMemory};
 
 use crate::refusal::Refusal;
 use crate::state::State;
 use control_stanza::Text;
-use std::alloc::{AllocError, AllocFailed};
+use std::alloc::{AllocError, AllocFailed, Global};
 
 /// What a command comes to that isn't refused.
 #[derive(Drop)]
@@ -16,6 +16,22 @@ pub struct Change {
     pub reply: Text,
 }
 
+impl Change {
+    /// The same once more. Fails only for want of memory.
+    pub fn copy(&self, alloc: Global) -> Result<Change, AllocError>
+        ensures { IfOk result (λ made. made ≡ self.now) }
+    {
+        let state = match &self.state {
+            None => None,
+            Some(state) => Some(state.copy(alloc)?),
+        };
+        Ok(Change {
+            state,
+            reply: self.reply.copy(alloc)?,
+        })
+    }
+}
+
 /// Why a command changes nothing.
 #[derive(Drop)]
 pub enum ChangeFault {
@@ -23,6 +39,18 @@ pub enum ChangeFault {
     Refused(Refusal),
     /// Memory was wanting.
     OutOfMemory,
+}
+
+impl ChangeFault {
+    /// The same once more. Fails only for want of memory.
+    pub fn copy(&self, alloc: Global) -> Result<ChangeFault, AllocError>
+        ensures { IfOk result (λ made. made ≡ self.now) }
+    {
+        match self {
+            ChangeFault::Refused(refusal) => Ok(ChangeFault::Refused(refusal.copy(alloc)?)),
+            ChangeFault::OutOfMemory => Ok(ChangeFault::OutOfMemory),
+        }
+    }
 }
 
 impl From<AllocError> for ChangeFault {

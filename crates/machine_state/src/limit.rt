@@ -17,6 +17,15 @@ pub enum Kind {
     Component,
 }
 
+impl Kind {
+    /// The same once more.
+    pub fn copy(&self) -> Kind
+        ensures { result ≡ self.now }
+    {
+        *self
+    }
+}
+
 /// What is limited.
 #[derive(Clone, Copy, Debug, PartialEq, Eq)]
 pub enum Limit {
@@ -49,6 +58,13 @@ pub enum Limit {
 }
 
 impl Limit {
+    /// The same once more.
+    pub fn copy(&self) -> Limit
+        ensures { result ≡ self.now }
+    {
+        *self
+    }
+
     /// The number that may not be passed.
     pub fn number(&self) -> u64
         ensures { result ≡ limit_number self.now }

@@ -19,6 +19,21 @@ pub enum Reading {
     Folder(Name, SafePath),
 }
 
+impl Reading {
+    /// The same once more. Fails only for want of memory.
+    pub fn copy(&self, alloc: Global) -> Result<Reading, AllocError>
+        ensures { IfOk result (λ made. made ≡ self.now) }
+    {
+        match self {
+            Reading::Nothing => Ok(Reading::Nothing),
+            Reading::Mirror(name) => Ok(Reading::Mirror(name.copy(alloc)?)),
+            Reading::Folder(name, path) => {
+                Ok(Reading::Folder(name.copy(alloc)?, path.copy(alloc)?))
+            }
+        }
+    }
+}
+
 /// What a command comes to.
 #[derive(Drop)]
 pub struct Outcome {
@@ -30,7 +45,36 @@ pub struct Outcome {
     pub refusal: Option<Refusal>,
 }
 
+fn copy_state(alloc: Global, state: &Option<State>) -> Result<Option<State>, AllocError>
+    ensures { IfOk result (λ made. made ≡ state.now) }
+{
+    match state {
+        None => Ok(None),
+        Some(state) => Ok(Some(state.copy(alloc)?)),
+    }
+}
+
+fn copy_refusal(alloc: Global, refusal: &Option<Refusal>) -> Result<Option<Refusal>, AllocError>
+    ensures { IfOk result (λ made. made ≡ refusal.now) }
+{
+    match refusal {
+        None => Ok(None),
+        Some(refusal) => Ok(Some(refusal.copy(alloc)?)),
+    }
+}
+
 impl Outcome {
+    /// The same once more. Fails only for want of memory.
+    pub fn copy(&self, alloc: Global) -> Result<Outcome, AllocError>
+        ensures { IfOk result (λ made. made ≡ self.now) }
+    {
+        Ok(Outcome {
+            state: copy_state(alloc, &self.state)?,
+            reply: self.reply.copy(alloc)?,
+            refusal: copy_refusal(alloc, &self.refusal)?,
+        })
+    }
+
     /// That of a refused command: its line is said, and the state stays as it was. Fails only for want of memory.
     pub fn refused(alloc: Global, refusal: Refusal) -> Result<Outcome, AllocError>
         ensures { IfOk result (λ outcome. outcome ≡ record { state = None; reply = line_of refusal; refusal = Some refusal }) }
