@@ -123,7 +123,7 @@ fn equal(desk: &Desk, out: &mut String, rest: &str) -> Result<(), Stop> {
     let wanted = package_of(desk, rest)?;
     out.push_str(yes_or_no(list.has(&wanted)))?;
     if let Some(member) = list.equal_of(&wanted) {
-        put_at(out, " ", of.said.size)?;
+        put_at(out, " ", member.said.size)?;
     }
     Ok(())
 }
