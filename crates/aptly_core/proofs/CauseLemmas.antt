@@ -255,18 +255,18 @@ module _ (given : Given) (large : Option (List ℕ)) where
   last_refused s (c ∷ cs) (o ∷ os) r runs ends = last_one s c cs o os r o.refusal refl runs.0 runs.1 ends (λ x y. last_refused o.state cs os r x y)
 
   -- where all were done, each is built
-  done_one : (c : PlainCommand) (cs : List PlainCommand) (o : Outcome StateView Refusal) (os : List (Outcome StateView Refusal)) (q : Option Refusal) → o.refusal ≡ q → (o.refusal ≡ Some NotBuilt → ⊥) ⊎ Unit {0}
+  done_one : (cs : List PlainCommand) (o : Outcome StateView Refusal) (os : List (Outcome StateView Refusal)) (q : Option Refusal) → o.refusal ≡ q
       → MatchOption q (Runs (machine given) large o.state cs os) (λ _. os ≡ []) → MatchOption q (EndsAs cs os None) (λ refusal. (os ≡ []) × (None ≡ Some refusal))
       → (o.refusal ≡ None → Runs (machine given) large o.state cs os → EndsAs cs os None → ⊥) → ⊥
-  done_one c cs o os None e any runs ends more = more e runs ends
-  done_one c cs o os (Some q) e any runs ends more = absurd (let no : None ≡ Some q = ends.1 in cc)
+  done_one cs o os None e runs ends more = more e runs ends
+  done_one cs o os (Some q) e runs ends more = absurd (let no : None ≡ Some q = ends.1 in cc)
 
   none_unbuilt : (s : StateView) (cs : List PlainCommand) (os : List (Outcome StateView Refusal)) → Runs (machine given) large s cs os → EndsAs cs os None → (k : ℕ) (c : PlainCommand) → k < length cs → slice_index_or cs k c ≡ c → IsUnbuilt c → ⊥
   none_unbuilt s [] os runs ends k c lt at is = absurd (omega (arith, lt))
   none_unbuilt s (d ∷ cs) [] runs ends k c lt at is = ends
   none_unbuilt s (d ∷ cs) (o ∷ os) runs ends zero c lt at is =
-      done_one d cs o os o.refusal refl (inr tt) runs.1 ends (λ none x y. let no : None ≡ Some NotBuilt = sym none ∙ unbuilt_refused given large s d o (subst IsUnbuilt (sym at) is) runs.0 in cc)
-  none_unbuilt s (d ∷ cs) (o ∷ os) runs ends (suc k) c lt at is = done_one d cs o os o.refusal refl (inr tt) runs.1 ends (λ none x y. none_unbuilt o.state cs os x y k c (omega (arith, lt)) at is)
+      done_one cs o os o.refusal refl runs.1 ends (λ none x y. let no : None ≡ Some NotBuilt = sym none ∙ unbuilt_refused given large s d o (subst IsUnbuilt (sym at) is) runs.0 in cc)
+  none_unbuilt s (d ∷ cs) (o ∷ os) runs ends (suc k) c lt at is = done_one cs o os o.refusal refl runs.1 ends (λ none x y. none_unbuilt o.state cs os x y k c (omega (arith, lt)) at is)
 
 -- ---- calls
 module _ (given : Given) (Told : Option (List ℕ) → Type 0) (words : List (List ℕ)) (cs : List PlainCommand) (found : asked words ≡ Some cs) where

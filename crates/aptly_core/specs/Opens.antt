@@ -18,7 +18,8 @@ use Rattle.aptly_core.specs.declared.status.Status.TheVariants as statuses
 use Rattle.aptly_core.specs.Machine.{Place, IsWork}
 use Rattle.aptly_core.specs.Runs.{EndsWith, RanTo, SaysRefusal}
 use Rattle.aptly_core.specs.Apart.{Apart}
-use Rattle.catalogue_root.specs.Loads.{IsDamage, MayLoad, RootApart}
+use Rattle.catalogue_root.specs.Loads.{IsDamage, RootApart}
+use Rattle.catalogue_root.specs.Opens.{IsSettling}
 use Rattle.catalogue_root.specs.Store.{store, Open, Sound, SoundForNone}
 
 -- how a call ends whose store gave no state
