@@ -134,8 +134,8 @@ pub(crate) fn covers_whole(pattern: &str, text: &str) -> bool
 /// stands first is a member. A `[` without its end, and every other character, stands for itself. It takes no memory.
 ///
 /// What stands behind the last `*` is tried at one place alone, and between two `*` characters that stand for themselves,
-/// a `[` without its end among them, are looked for as one text, and not tried at each place. A class or a `?` between two
-/// `*` may be tried at each place of the text, so that the time grows as the product of the two lengths.
+/// a `[` without its end among them, are looked for as one text; for these the time grows as the two lengths do. A class or
+/// a `?` between two `*` may be tried at each place of the text, so that the time grows as the product of the two lengths.
 pub fn glob_matches(pattern: &str, text: &str) -> bool
     ensures { IsTrue result ↔ Glob pattern.now text.now }
 {
