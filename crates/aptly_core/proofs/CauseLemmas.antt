@@ -2,6 +2,7 @@
 use Rattle.std.proofs.Common.{◌≡◌, ◌⊎◌, inl, inr, ℕ, zero, suc, ◌<◌, Bool, true, false, nat_le, nat_lt, List, [], ◌∷◌, length, Contains, slice_index_or, Option, Some, None, MatchOption, IfSome, Result, Ok, Err, IfErr, refl, sym, ◌∙◌, ap, subst, arith, is_some}
 use Rattle.std.specs.Bool.{if◌then◌else◌}
 use Rattle.ap_text.specs.Names.{is_name}
+use Rattle.ap_text.specs.Paths.{below_folder}
 use Rattle.ap_host.specs.Disk.{Path, Content, Files}
 use Rattle.run_model.specs.Run.{Outcome, Runs, EndsAs}
 use Rattle.command_words.specs.Plain.{PlainCommand, repo_create, repo_add, repo_show, package_search, package_show}
@@ -10,6 +11,8 @@ use Rattle.digest_set.specs.declared.facts.Digests.{Digests}
 use Rattle.digest_set.specs.declared.facts.What.{What}
 use Rattle.package_list.specs.declared.fault.ListFault.{ListFault}
 use Rattle.package_list.specs.declared.fault.ListFault.TheVariants as list_faults
+use Rattle.package_list.specs.Answers.{append_answer, join_answer}
+use Rattle.package_list.specs.Lists.{union}
 use Rattle.query_tree.specs.Tree.{Tree}
 use Rattle.query_grammar.specs.Said.{query_of}
 use Rattle.query_eval.specs.Build.{IsNoPattern}
@@ -23,10 +26,10 @@ use Rattle.machine_state.specs.declared.refusal.Refusal.TheVariants.{NotBuilt, B
 use Rattle.machine_state.specs.declared.repo.Repo.{Repo as RepoOf}
 use Rattle.machine_state.specs.Ascending.{put}
 use Rattle.machine_state.specs.Limits.{limit_number}
-use Rattle.machine_state.specs.State.{repo_cmp, repo_of}
+use Rattle.machine_state.specs.State.{repo_cmp, repo_of, text_length}
 use Rattle.machine_state.specs.Values.{StateView}
 use Rattle.reply_text.specs.Replies as replies
-use Rattle.local_repo.specs.Arrival.{Entry, and_then, index_bytes, index_path, or_malformed, or_refused, agreed, compared, of_file, of_known_or_file, taken as taken_file, each_taken, within_catalogue, check_answer, fitting, entries_arrive, index_arrives, BytesArrive, Arrives}
+use Rattle.local_repo.specs.Arrival.{Entry, cards_of, path_of, list_of, and_then, index_bytes, index_path, or_malformed, or_refused, agreed, compared, of_file, of_known_or_file, taken as taken_file, each_taken, within_catalogue, check_answer, fitting, entries_arrive, index_arrives, BytesArrive, Arrives}
 use Rattle.local_repo.specs.Answers.{IsArrival, IsInputLimit, IsInputRefusal}
 use Rattle.machine_step.specs.Early.{or_else, bad_name, bad_folder, is_folder, taken, unknown, flagged, bad_query, early, conditions, AfterNames, Refuses}
 use Rattle.machine_step.specs.Queries.{IsPatternRefusal}
@@ -82,22 +85,31 @@ each_fine : (take : Card → Result Card Refusal) → ((p : Card) → Fine (take
 each_fine take fine [] = tt
 each_fine take fine (p ∷ ps) = then_fine (take p) _ (fine p) (λ q. then_fine (each_taken take ps) _ (each_fine take fine ps) (λ qs. tt))
 
+within_fine : (known : List Card) → Fine (within_catalogue known)
+within_fine known = then_fine {X = List Card} {Y = Unit {0}} (if nat_lt (limit_number Known) (length known) then Err (Limit Known) else Ok known) (λ all. if nat_lt (limit_number Catalogue) (text_length all) then Err (Limit Catalogue) else Ok tt)
+    (limited_fine {X = List Card} (nat_lt (limit_number Known) (length known)) Known tt (Ok known) tt)
+    (λ all. limited_fine {X = Unit {0}} (nat_lt (limit_number Catalogue) (text_length all)) Catalogue tt (Ok tt) tt)
+
 check_fine : (known own list : List Card) → Fine (check_answer known own list)
 unfolding check_answer
-check_fine known own list = then_fine (or_refused Packages _) _ (listed_fine Packages tt _) (λ x.
-    then_fine _ _ (limited_fine _ Known tt (Ok _) tt) (λ all. limited_fine _ Catalogue tt (Ok tt) tt))
+check_fine known own list = then_fine {X = Unit {0}} {Y = Unit {0}} (or_refused Packages (append_answer own list)) (λ x. within_catalogue (union known list)) (listed_fine {X = Unit {0}} Packages tt (append_answer own list)) (λ x. within_fine (union known list))
+
+fitting_fine : (known own list : List Card) → Fine (fitting known own list)
+fitting_fine known own list = then_fine {X = Unit {0}} {Y = List Card} (check_answer known own list) (λ x. Ok list) (check_fine known own list) (λ x. tt)
 
 arrive_fine : (files : Files) (known own : List Card) (folder : Path) (entries : List Entry) → Fine (entries_arrive files known own folder entries)
 unfolding entries_arrive
-arrive_fine files known own folder entries = then_fine (or_refused Packages _) _ (listed_fine Packages tt _) (λ joined.
-    then_fine (each_taken _ joined) _ (each_fine _ (λ p. taken_fine files known _ p) joined) (λ list. then_fine (check_answer known own list) _ (check_fine known own list) (λ x. tt)))
+arrive_fine files known own folder entries =
+    let take = λ (p : Card). taken_file files known (below_folder folder (path_of entries p)) p in
+    then_fine {X = List Card} {Y = List Card} (or_refused Packages (join_answer (cards_of entries))) (λ joined. and_then (each_taken take joined) (λ list. fitting known own list)) (listed_fine {X = List Card} Packages tt (join_answer (cards_of entries)))
+    (λ joined. then_fine {X = List Card} {Y = List Card} (each_taken take joined) (λ list. fitting known own list) (each_fine take (λ p. taken_fine files known (below_folder folder (path_of entries p)) p) joined) (λ list. fitting_fine known own list))
 
 arrives_refused : (files : Files) (s : StateView) (name : List ℕ) (folder : Path) (r : Refusal) → Arrives files s name folder (Err r) → IsInputRefusal r
 unfolding Arrives
 arrives_refused files s name folder r arrives = go (index_bytes (index_path folder) (files (index_path folder))) (bytes_fine (index_path folder) (files (index_path folder))) arrives
   where
     go : (b : Result (List ℕ) Refusal) → Fine b → BytesArrive files s name folder b (Err r) → IsInputRefusal r
-    go (Ok bytes) fine w = subst Fine (sym w.2) (then_fine (or_malformed (index_path folder) w.0) _ (malformed_fine (index_path folder) w.0) (λ entries. arrive_fine files s.known _ folder entries))
+    go (Ok bytes) fine w = subst (Fine {X = List Card}) (sym w.2) (then_fine {X = List Entry} {Y = List Card} (or_malformed (index_path folder) w.0) (λ entries. entries_arrive files s.known (list_of s name) folder entries) (malformed_fine {X = List Entry} (index_path folder) w.0) (λ entries. arrive_fine files s.known (list_of s name) folder entries))
     go (Err e) fine w = subst (Fine {X = List Card}) (sym w) fine
 
 arrival_refused : (input : Option Files) (s : StateView) (name : List ℕ) (folder : Path) (r : Refusal) → IsArrival input s name folder (arrivals.Refused r) → IsInputRefusal r
@@ -274,18 +286,18 @@ module _ (given : Given) (Told : Option (List ℕ) → Type 0) (words : List (Li
   too_large query test w =
       let last = last_refused given w.2.0 w.0 cs w.2.2 (PatternTooLarge query test) w.2.3 w.2.4 in
       elim (cause given w.2.0 last.0 last.1 last.2 (PatternTooLarge query test) last.4 last.5) [
-        | inl is ↦ absurd (elim (early_is last.0 last.1 (PatternTooLarge query test) is) [ inl no ↦ no | inr no ↦ let x = no in cc ])
+        | inl is ↦ absurd (elim (early_is last.0 last.1 (PatternTooLarge query test) is) [ inl bad ↦ bad | inr bad ↦ let x = bad in cc ])
         | inr (inl is) ↦ (is.1, subst Told is.3 w.2.1, (cs, last.1, found, last.3, (is.0, is.2)))
-        | inr (inr is) ↦ absurd (elim is [ inl no ↦ no | inr no ↦ let x = no in cc ])
+        | inr (inr is) ↦ absurd (elim is [ inl bad ↦ bad | inr bad ↦ let x = bad in cc ])
       ]
 
   pub no_pattern : (query test : ℕ) → EndsFrom given Told cs (statuses.Refused (BadPattern query test)) → (text : List ℕ) × IsNoPattern text × AsksFor words (HasCondition query test text)
   no_pattern query test w =
       let last = last_refused given w.2.0 w.0 cs w.2.2 (BadPattern query test) w.2.3 w.2.4 in
       elim (cause given w.2.0 last.0 last.1 last.2 (BadPattern query test) last.4 last.5) [
-        | inl is ↦ absurd (elim (early_is last.0 last.1 (BadPattern query test) is) [ inl no ↦ no | inr no ↦ let x = no in cc ])
+        | inl is ↦ absurd (elim (early_is last.0 last.1 (BadPattern query test) is) [ inl bad ↦ bad | inr bad ↦ let x = bad in cc ])
         | inr (inl is) ↦ (is.1, is.3, (cs, last.1, found, last.3, (is.0, is.2)))
-        | inr (inr is) ↦ absurd (elim is [ inl no ↦ no | inr no ↦ let x = no in cc ])
+        | inr (inr is) ↦ absurd (elim is [ inl bad ↦ bad | inr bad ↦ let x = bad in cc ])
       ]
 
   pub not_built : EndsFrom given Told cs (statuses.Refused NotBuilt) → AsksFor words IsUnbuilt
@@ -294,7 +306,7 @@ module _ (given : Given) (Told : Option (List ℕ) → Type 0) (words : List (Li
       elim (cause given w.2.0 last.0 last.1 last.2 NotBuilt last.4 last.5) [
         | inl is ↦ (cs, last.1, found, last.3, (λ t. unbuilt last.0 t last.1 is))
         | inr (inl is) ↦ absurd is
-        | inr (inr is) ↦ absurd (elim is [ inl no ↦ no | inr no ↦ let x = no in cc ])
+        | inr (inr is) ↦ absurd (elim is [ inl bad ↦ bad | inr bad ↦ let x = bad in cc ])
       ]
 
   -- a call that is done asked for nothing that isn't built

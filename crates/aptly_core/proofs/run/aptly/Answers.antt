@@ -36,33 +36,33 @@ returns-in-Err-At-clause-ended g c end = absurd (usage_no_end c.tell_usage.resul
 -- why it is refused
 pub returns-in-Ok-clause-too_large : goal.returns-in-Ok-clause-too_large
 returns-in-Ok-clause-too_large g c query test is =
-    let cs = map plain c.deref.result.now in
-    let found = c.in-Ok.ensures.read ∙ ap (λ xs. Some (map plain xs)) (sym c.deref.ensures.value) in
-    too_large _ _ c.args.words.now cs found query test (subst (EndsFrom _ _ cs) is (c.run_now.ensures.ended (subst IsEnd (sym is) tt)))
+    let e = returns-in-Ok-clause-ended g c (subst IsEnd (sym is) tt) in
+    let given = giving (g.I.Inbox.map c.args.inbox.now) c.args.now in
+    too_large given _ c.args.words.now e.0 e.1 query test (subst (EndsFrom given _ e.0) is e.2)
 
 pub returns-in-Ok-clause-no_pattern : goal.returns-in-Ok-clause-no_pattern
 returns-in-Ok-clause-no_pattern g c query test is =
-    let cs = map plain c.deref.result.now in
-    let found = c.in-Ok.ensures.read ∙ ap (λ xs. Some (map plain xs)) (sym c.deref.ensures.value) in
-    no_pattern _ _ c.args.words.now cs found query test (subst (EndsFrom _ _ cs) is (c.run_now.ensures.ended (subst IsEnd (sym is) tt)))
+    let e = returns-in-Ok-clause-ended g c (subst IsEnd (sym is) tt) in
+    let given = giving (g.I.Inbox.map c.args.inbox.now) c.args.now in
+    no_pattern given _ c.args.words.now e.0 e.1 query test (subst (EndsFrom given _ e.0) is e.2)
 
 pub returns-in-Ok-clause-not_built : goal.returns-in-Ok-clause-not_built
 returns-in-Ok-clause-not_built g c is =
-    let cs = map plain c.deref.result.now in
-    let found = c.in-Ok.ensures.read ∙ ap (λ xs. Some (map plain xs)) (sym c.deref.ensures.value) in
-    not_built _ _ c.args.words.now cs found (subst (EndsFrom _ _ cs) is (c.run_now.ensures.ended (subst IsEnd (sym is) tt)))
+    let e = returns-in-Ok-clause-ended g c (subst IsEnd (sym is) tt) in
+    let given = giving (g.I.Inbox.map c.args.inbox.now) c.args.now in
+    not_built given _ c.args.words.now e.0 e.1 (subst (EndsFrom given _ e.0) is e.2)
 
 pub returns-in-Ok-clause-all_built : goal.returns-in-Ok-clause-all_built
 returns-in-Ok-clause-all_built g c is asks =
-    let cs = map plain c.deref.result.now in
-    let found = c.in-Ok.ensures.read ∙ ap (λ xs. Some (map plain xs)) (sym c.deref.ensures.value) in
-    all_built _ _ c.args.words.now cs found (subst (EndsFrom _ _ cs) is (c.run_now.ensures.ended (subst IsEnd (sym is) tt))) asks
+    let e = returns-in-Ok-clause-ended g c (subst IsEnd (sym is) tt) in
+    let given = giving (g.I.Inbox.map c.args.inbox.now) c.args.now in
+    all_built given _ c.args.words.now e.0 e.1 (subst (EndsFrom given _ e.0) is e.2) asks
 
 pub returns-in-Ok-clause-unbuilt_first : goal.returns-in-Ok-clause-unbuilt_first
 returns-in-Ok-clause-unbuilt_first g c end first rest asks is =
-    let cs = map plain c.deref.result.now in
-    let found = c.in-Ok.ensures.read ∙ ap (λ xs. Some (map plain xs)) (sym c.deref.ensures.value) in
-    unbuilt_first _ _ c.args.words.now cs found c.run_now.result end (c.run_now.ensures.ended end) first rest asks is
+    let e = returns-in-Ok-clause-ended g c end in
+    let given = giving (g.I.Inbox.map c.args.inbox.now) c.args.now in
+    unbuilt_first given _ c.args.words.now e.0 e.1 c.run_now.result end e.2 first rest asks is
 
 pub returns-in-Err-At-clause-too_large : goal.returns-in-Err-At-clause-too_large
 returns-in-Err-At-clause-too_large g c query test is = absurd (usage_no_end c.tell_usage.result c.tell_usage.ensures.only (subst IsEnd (sym is) tt))
