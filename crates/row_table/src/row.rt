@@ -1,7 +1,7 @@
 //! A row, and the block of the base.
 
-use crate::desk::Desk;
 use crate::answers::{put, put_at};
+use crate::desk::Desk;
 use crate::stop::Stop;
 use std::alloc::AllocError;
 
