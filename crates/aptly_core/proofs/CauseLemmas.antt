@@ -9,6 +9,8 @@ use Rattle.command_words.specs.Plain.{PlainCommand, repo_create, repo_add, repo_
 use Rattle.package_core.specs.Card.{Card}
 use Rattle.digest_set.specs.declared.facts.Digests.{Digests}
 use Rattle.digest_set.specs.declared.facts.What.{What}
+use Rattle.digest_set.specs.Difference.{difference}
+use Rattle.digest_set.specs.Facts.{digests_of}
 use Rattle.package_list.specs.declared.fault.ListFault.{ListFault}
 use Rattle.package_list.specs.declared.fault.ListFault.TheVariants as list_faults
 use Rattle.package_list.specs.Answers.{append_answer, join_answer}
@@ -29,7 +31,7 @@ use Rattle.machine_state.specs.Limits.{limit_number}
 use Rattle.machine_state.specs.State.{repo_cmp, repo_of, text_length}
 use Rattle.machine_state.specs.Values.{StateView}
 use Rattle.reply_text.specs.Replies as replies
-use Rattle.local_repo.specs.Arrival.{Entry, cards_of, path_of, list_of, and_then, index_bytes, index_path, or_malformed, or_refused, agreed, compared, of_file, of_known_or_file, taken as taken_file, each_taken, within_catalogue, check_answer, fitting, entries_arrive, index_arrives, BytesArrive, Arrives}
+use Rattle.local_repo.specs.Arrival.{Entry, cards_of, path_of, list_of, facts_of, and_then, index_bytes, index_path, or_malformed, or_refused, agreed, compared, of_file, of_known_or_file, taken as taken_file, each_taken, within_catalogue, check_answer, fitting, entries_arrive, index_arrives, BytesArrive, Arrives}
 use Rattle.local_repo.specs.Answers.{IsArrival, IsInputLimit, IsInputRefusal}
 use Rattle.machine_step.specs.Early.{or_else, bad_name, bad_folder, is_folder, taken, unknown, flagged, bad_query, early, conditions, AfterNames, Refuses}
 use Rattle.machine_step.specs.Queries.{IsPatternRefusal}
@@ -68,14 +70,14 @@ malformed_fine : {X : Type 0} (path : Path) (r : Result X ℕ) → Fine (or_malf
 malformed_fine path (Ok x) = tt
 malformed_fine path (Err line) = tt
 
-agreed_fine : (path : Path) (p : Card) (found : Digests) (o : Option (What × List ℕ × List ℕ)) → Fine (agreed path p found o)
-agreed_fine path p found None = tt
-agreed_fine path p found (Some (what, said, other)) = tt
+agreed_fine : (path : Path) (p : Card) (found : Digests) (o : Option (What × List ℕ × List ℕ)) → difference p.said found ≡ o → Fine (agreed path p found o)
+agreed_fine path p found None e = tt
+agreed_fine path p found (Some (what, said, other)) e = (p.said, found, e)
 
 file_fine : (path : Path) (p : Card) (o : Option Card) (x : Content) → Fine (of_known_or_file path p o x)
-file_fine path p (Some q) x = agreed_fine path p _ _
+file_fine path p (Some q) x = agreed_fine path p (facts_of q) (difference p.said (facts_of q)) refl
 file_fine path p None None = tt
-file_fine path p None (Some bytes) = agreed_fine path p _ _
+file_fine path p None (Some bytes) = agreed_fine path p (digests_of bytes) (difference p.said (digests_of bytes)) refl
 
 taken_fine : (files : Files) (known : List Card) (path : Path) (p : Card) → Fine (taken_file files known path p)
 unfolding taken_file
