@@ -1,8 +1,3 @@
-pub mod ClassFacts
-pub mod ElementFacts
-pub mod EndFacts
-pub mod GlobFacts
-pub mod SearchFacts
 pub mod Expressions
 pub mod Builds
 pub mod Fields

@@ -1,5 +1,5 @@
 -- How the preparing of one condition after another adds up.
-use Rattle.std.proofs.Common.{◌≡◌, ℕ, ◌+◌, ◌≤◌, List, [], ◌∷◌, ◌++◌, length, All, Option, Some, Ok, Err, inl, inr, refl, sym, ap, ◌∙◌, arith, append_assoc, append-nil, length-append, map, take, drop, get_or, ◌<◌, add-one}
+use Rattle.std.proofs.Common.{◌≡◌, ℕ, ◌+◌, ◌≤◌, List, [], ◌∷◌, ◌++◌, length, All, Option, Some, Ok, Err, refl, sym, ap, ◌∙◌, arith, append_assoc, append-nil, length-append, map, take, drop, get_or, ◌<◌, add-one}
 use Rattle.std.proofs.lemmas.List.{map-append, take_more}
 use Rattle.std.proofs.Math.Seq.{drop-cons}
 use Rattle.std.proofs.lemmas.List.Elements.{All-nil, All-append, All-same}
@@ -9,7 +9,8 @@ use Rattle.query_tree.specs.declared.query.Query.{Query}
 use Rattle.query_tree.specs.Tree.{plain, plains, listed}
 use Rattle.query_eval.specs.declared.node.Node.{Node}
 use Rattle.query_eval.specs.Preparing.{node_tree}
-use Rattle.query_eval.specs.Build.{IsNoPattern, Rose}
+use Rattle.ap_host.specs.Calls.{Rose}
+use Rattle.query_eval.specs.Build.{IsNoPattern}
 use Rattle.query_eval.specs.Conditions.{patterns_of, patterns_in, IsPattern, IsCondition, Prepares}
 
 only_condition : (before number : ℕ) (text : List ℕ) → number ≡ before + 1 → IsCondition before (text ∷ []) number text
@@ -32,8 +33,7 @@ large_one before number text old new refused now_refused e rose named falls = re
 }
 
 rose_from : (old mid new : ℕ) → old ≤ mid → Rose mid new → Rose old new
-rose_from old mid new falls (inl rose) = inl (omega arith)
-rose_from old mid new falls (inr last) = inr last
+rose_from old mid new falls rose = omega (arith, rose, falls)
 
 -- some of the conditions behind so many others are prepared, and these are left
 pub record Done (before : ℕ) (texts rest : List (List ℕ)) (count old now : ℕ) (refused now_refused : Option (List ℕ)) : Type 0 where

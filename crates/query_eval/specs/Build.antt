@@ -15,10 +15,6 @@ abbrev pub IsNoPattern : List ℕ → Type 0
 IsNoPattern text = (read default_config (chars text) ≡ None)
     ⊎ IfSome (read default_config (chars text)) (λ (re, _). default_config.nest_limit < re.depth)
 
--- a count rose, or stands at its last value
-abbrev pub Rose : ℕ → ℕ → Type 0
-Rose old new = (old < new) ⊎ (new ≡ 2 ^ 64 - 1)
-
 -- one more, as long as 64 bits hold it
 abbrev pub one_more : ℕ → ℕ
 one_more n = min (n + 1) (2 ^ 64 - 1)

@@ -7,7 +7,8 @@ use Rattle.regex.specs.Patterns.{default_config}
 use Rattle.regex_syntax.specs.Grammar.{read}
 use Rattle.query_eval.specs.declared.fault.EvalFault.{EvalFault}
 use Rattle.query_eval.specs.declared.fault.EvalFault.TheVariants.{BadPattern, PatternTooLarge, OutOfMemory}
-use Rattle.query_eval.specs.Build.{IsNoPattern, Rose}
+use Rattle.ap_host.specs.Calls.{Rose}
+use Rattle.query_eval.specs.Build.{IsNoPattern}
 
 -- the text of a `~` condition
 abbrev pub pattern_of : Option (Test × List ℕ) → List (List ℕ)

@@ -18,8 +18,7 @@ use Rattle.query_tree.specs.Tree.{Tree, Trees, any, all, negated, reference, wan
 use Rattle.regex.specs.Patterns.{Re, find_str, default_config}
 use Rattle.regex_syntax.specs.Brackets.{Nested}
 use Rattle.regex_syntax.specs.Grammar.{Names, read}
-use Rattle.query_eval.specs.Glob.{elements_of}
-use Rattle.query_eval.specs.GlobReading.{covers}
+use Rattle.shell_pattern.specs.GlobReading.{is_globbed}
 
 -- The value of a field, if it is there. Names that begin with `$` are of the package and not of its stanza. The fields
 -- that speak of the file are no part of a package.
@@ -57,10 +56,6 @@ compares name asked value text =
     if bytes_eq name (codes "$Version") then version_compares asked value text
     else if bytes_eq name (codes "$Architecture") then is_for_all asked value || text_compares asked value text
     else text_compares asked value text
-
--- a shell pattern stands for the whole value
-unfoldable pub is_globbed : List ℕ → List ℕ → Bool
-is_globbed pattern value = covers (elements_of (chars pattern)) (chars value)
 
 -- what is found of a pattern that was read
 abbrev pub finds : Option (Nested Re × Names) → List ℕ → Bool

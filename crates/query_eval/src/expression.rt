@@ -3,7 +3,8 @@
 ghost use Rattle.std.specs.Prelude.{◌≡◌, ◌⊎◌, ◌≤◌, IfOk, OnOk, MatchResult, Some};
 ghost use Rattle.regex.specs.Strings.{regex_source};
 ghost use Rattle.query_eval.specs.declared.patterns.PatternErr.TheVariants.{OutOfMemory};
-ghost use Rattle.query_eval.specs.Build.{IsNoPattern, IsReadFrom, Rose};
+ghost use Rattle.ap_host.specs.Calls.{Rose};
+ghost use Rattle.query_eval.specs.Build.{IsNoPattern, IsReadFrom};
 ghost use Rattle.query_eval.specs.Conditions.{IsPattern};
 ghost use Rattle.query_eval.specs.Truth.{is_found};
 

@@ -2,7 +2,7 @@
 
 ghost use Rattle.std.specs.Prelude.{◌≡◌, IfOk, Some};
 ghost use Rattle.std.specs.Option.{option_copied};
-ghost use Rattle.query_eval.specs.Truth.{value_in, version_compares, is_for_all as for_all, text_compares, compares as stands_so, is_globbed};
+ghost use Rattle.query_eval.specs.Truth.{value_in, version_compares, is_for_all as for_all, text_compares, compares as stands_so};
 
 use deb_version::{Relation, Version, VersionFault, meets};
 use package_core::{Package, is_file_field};

@@ -1,19 +1,11 @@
-//! The truth of queries on packages: shell patterns, regular expressions, relations and fields.
+//! The truth of queries on packages: relations, fields, shell patterns and regular expressions.
 #![tactic(auto)]
 
 mod asked;
-mod class;
 mod copy;
-mod element;
 mod expression;
 mod fault;
 mod field;
-mod glob;
-mod glob_end;
-mod last;
-mod laws;
-mod letter;
-mod literal;
 mod node;
 mod patterns;
 mod prepare;
@@ -21,7 +13,6 @@ mod prepared;
 mod truth;
 
 pub use fault::EvalFault;
-pub use glob::glob_matches;
-pub use laws::globs_cut_values;
 pub use patterns::{MemPatterns, PatternErr, Patterns, RegexPatterns};
 pub use prepared::Prepared;
+pub use shell_pattern::{glob_matches, globs_cut_values};

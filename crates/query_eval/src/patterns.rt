@@ -1,7 +1,8 @@
 //! Who builds regular expressions.
 
 ghost use Rattle.std.specs.Prelude.{◌≡◌, ◌⊎◌, ◌≤◌, ℕ, List, IfOk, Option, Some, None, string_bytes, option_map, IsTrue, IsFalse};
-ghost use Rattle.query_eval.specs.Build.{IsReadFrom, IsNoPattern, Rose, one_more, is_due};
+ghost use Rattle.ap_host.specs.Calls.{Rose};
+ghost use Rattle.query_eval.specs.Build.{IsReadFrom, IsNoPattern, one_more, is_due};
 ghost use Rattle.query_eval.specs.Builders.{IsCounted, IsBuilt, IsDueAnswer};
 
 use regex::Regex;

@@ -10,15 +10,14 @@ ghost use Rattle.query_eval.specs.Truth.{matches as tree_matches, some_matches, 
 
 use crate::asked::Asked;
 use crate::field::{compares, value_of};
-use crate::glob::covers_whole;
 use crate::node::{Check, Node};
 use ap_text::Name;
 use control_stanza::Text;
 use deb_version::{Relation, Version};
 use package_core::Package;
+use shell_pattern::glob_matches;
 use std::alloc::{AllocError, Global};
 
-#[tactic(auto, unfolding(crate::specs::Truth::is_globbed))]
 fn passes(
     alloc: Global,
     candidate: &Package,
@@ -33,7 +32,7 @@ fn passes(
         Check::Compared(asked, text) => {
             compares(alloc, candidate, name, *asked, value, text.as_str())
         }
-        Check::Glob(pattern) => Ok(covers_whole(pattern.as_str(), value)),
+        Check::Glob(pattern) => Ok(glob_matches(pattern.as_str(), value)),
         Check::Pattern(expression) => expression.is_found(alloc, value),
     }
 }

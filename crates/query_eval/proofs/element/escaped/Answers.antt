@@ -1,7 +1,0 @@
-use Rattle.std.proofs.Common.{ℕ, List, ◌∷◌, subst}
-use Rattle.std.specs.Prelude.{IsTrue, IsFalse}
-use Rattle.query_eval.specs.GlobReading.{has_class_end}
-use Rattle.query_eval.proofs.element.escaped.Goals as goal
-
-pub behind_escaped-requires : goal.behind_escaped-requires
-behind_escaped-requires c = subst (λ (cs : List ℕ). IsTrue c.args.is_open → IsFalse (has_class_end (92 ∷ cs))) c.in-Some.ensures.0 c.requires

@@ -1,0 +1,5 @@
+pub mod ClassFacts
+pub mod ElementFacts
+pub mod EndFacts
+pub mod GlobFacts
+pub mod SearchFacts

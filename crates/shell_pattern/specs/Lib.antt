@@ -1,0 +1,4 @@
+pub mod Glob
+pub mod GlobReading
+pub mod GlobViews
+pub mod GlobSearch
