@@ -5,8 +5,10 @@ use Rattle.ap_host.specs.Changes.{GoesOn}
 use Rattle.ap_host.proofs.ChangeLemmas.{GoesOn-map, GoesOn-none}
 use Rattle.machine_state.specs.State.{IsCatalogue}
 use Rattle.machine_state.specs.Values.{StateView}
-use Rattle.local_repo.specs.Arrival.{cards_of, entries_arrive, list_in, list_of}
-use Rattle.local_repo.specs.Answers.{AddsAll, FaultGives}
+use Rattle.package_intake.specs.Index.{cards_of}
+use Rattle.local_repo.specs.Arrival.{entries_arrive, list_in, list_of}
+use Rattle.package_intake.specs.Additions.{AddsAll}
+use Rattle.package_intake.specs.Steps.{FaultGives}
 use Rattle.local_repo.specs.Fits.{FitsIn, Fitting}
 use Rattle.local_repo.proofs.AddLemmas.{listed_arrives, listed_fault, unlisted_fault, fault_comes, list_comes, fitting_fits, adds_list, adds_fails, adds_nothing, of_input}
 use Rattle.local_repo.proofs.arrive.add.Goals as goal

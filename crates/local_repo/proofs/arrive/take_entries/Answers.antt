@@ -11,14 +11,16 @@ use Rattle.package_core.specs.Order.{package_cmp}
 use Rattle.package_list.specs.Sorted.{IsAscending}
 use Rattle.package_list.specs.Answers.{join_answer}
 use Rattle.machine_state.specs.declared.limit.Limit.TheVariants.{Packages}
-use Rattle.local_repo.specs.Arrival.{Entry, cards_of, entries_arrive, list_in, or_refused}
-use Rattle.local_repo.specs.Answers.{FaultGives}
+use Rattle.package_intake.specs.Index.{IndexEntry, cards_of}
+use Rattle.local_repo.specs.Arrival.{entries_arrive, list_in}
+use Rattle.package_intake.specs.Steps.{or_refused}
+use Rattle.package_intake.specs.Steps.{FaultGives}
 use Rattle.local_repo.proofs.ArrivalLemmas.{There, joined_is, joined_among, joined_ascending, joined_good, joined_paths, paths_there, paths_short, same_steps, join_fault, take_fault, check_fault, all_ok, told_err}
-use Rattle.local_repo.proofs.LogLemmas.{all_nothing, all_fails, all_among}
+use Rattle.package_intake.proofs.LogLemmas.{all_nothing, all_fails, all_among}
 use Rattle.local_repo.proofs.arrive.take_entries.Goals as goal
 
 -- what was joined is among what the index says
-members : (entries : List Entry) (packages list : List Card) → packages ≡ cards_of entries → or_refused Packages (join_answer packages) ≡ Ok list → (p : Card) → Contains list p → Contains (cards_of entries) p
+members : (entries : List IndexEntry) (packages list : List Card) → packages ≡ cards_of entries → or_refused Packages (join_answer packages) ≡ Ok list → (p : Card) → Contains list p → Contains (cards_of entries) p
 members entries packages list cards joins p there =
     joined_among entries p (subst (λ (ps : List Card). Contains ps p) (joined_is Packages (cards_of entries) list (ap (λ xs. or_refused Packages (join_answer xs)) (sym cards) ∙ joins)) there)
 
@@ -114,7 +116,7 @@ returns-clause-fits g c catalogue packages =
     let joins : or_refused Packages (join_answer (cards_of entries)) ≡ Ok ps = ap (λ xs. or_refused Packages (join_answer xs)) (sym cards) ∙ c.in_ok-joined.ensures.answer in
     let is = joined_is Packages (cards_of entries) ps joins in
     record {
-      joined = ps;
+      packages = ps;
       ascending = subst (IsAscending package_cmp) (sym is) (joined_ascending (cards_of entries));
       taken = c.in_ok-list.ensures.taken catalogue (subst (All (λ (p : Card). IsPackage p × IsSaid p.said)) (sym is) (joined_good entries packages));
       checked = c.in_ok-check.ensures.answer;
