@@ -10,7 +10,7 @@ use Rattle.package_list.specs.Lists.{union}
 use Rattle.package_list.specs.Answers.{append_answer}
 use Rattle.machine_state.specs.declared.limit.Limit.TheVariants.{Packages, Known, Catalogue}
 use Rattle.machine_state.specs.declared.refusal.Refusal.{Refusal}
-use Rattle.machine_state.specs.declared.refusal.Refusal.TheVariants.{Limit}
+use Rattle.machine_state.specs.declared.refusal.Refusal.TheVariants.{InputMismatch, Limit}
 use Rattle.machine_state.specs.declared.arrived.Arrived.{Arrived}
 use Rattle.machine_state.specs.declared.arrived.Arrived.TheVariants as arrivals
 use Rattle.machine_state.specs.declared.arrived.UpdateFault.{UpdateFault}
@@ -18,15 +18,15 @@ use Rattle.machine_state.specs.declared.arrived.UpdateFault.TheVariants as fault
 use Rattle.machine_state.specs.Limits.{limit_number}
 use Rattle.machine_state.specs.State.{Valid, text_length}
 use Rattle.machine_state.specs.Values.{StateView}
-use Rattle.package_intake.specs.Index.{IndexEntry, cards_of}
-use Rattle.local_repo.specs.Arrival.{Arrives, BytesArrive, check_answer, entries_arrive, list_of}
+use Rattle.package_intake.specs.Index.{EndsEarlyIf, IndexEntry, OfIndex, cards_of, path_of}
+use Rattle.local_repo.specs.Arrival.{Arrives, BytesArrive, check_answer, entries_arrive, index_path, list_of}
 use Rattle.package_intake.specs.Steps.{or_refused}
 use Rattle.package_intake.specs.Catalogue.{within_catalogue, known_answer}
 use Rattle.index_text.specs.Index.{ArePackages}
 use Rattle.local_repo.specs.Fits.{FitsIn, Fitting}
 use Rattle.package_intake.specs.Steps.{FaultGives}
-use Rattle.package_intake.specs.Faults.{IsAnyFault, IsInputFault}
-use Rattle.local_repo.specs.Answers.{IsArrival, IsListed, IsUnlisted, Comes, Adds}
+use Rattle.package_intake.specs.Faults.{FaultOfFiles, IsAnyFault, IsInputFault, IsOfFiles}
+use Rattle.local_repo.specs.Answers.{Adds, Comes, FaultOfFolder, IsArrival, IsListed, IsOfFolder, IsUnlisted}
 use Rattle.package_intake.specs.Additions.{AddsAll}
 use Rattle.local_repo.proofs.FitLemmas.{taken_fits}
 use Rattle.package_intake.proofs.TakenLemmas.{went_on}
@@ -137,3 +137,24 @@ of_input (faults.Refused refusal) h = h
 of_input faults.HostFault h = absurd h
 of_input faults.InboxFault h = tt
 of_input faults.OutOfMemory h = tt
+
+-- ---- of what a mismatch is told
+pub early_folder : (map : Option Files) (folder : Path) (fault : UpdateFault) → OfIndex (index_path folder) fault → FaultOfFolder map folder fault
+early_folder map folder (faults.Refused refusal) h = by_refusal refusal h
+  where
+    by_refusal : (r : Refusal) → EndsEarlyIf (index_path folder) r → IsOfFolder map folder r
+    by_refusal (InputMismatch at what said found) h = inl h
+    by_refusal r h = tt
+early_folder map folder faults.HostFault h = tt
+early_folder map folder faults.InboxFault h = tt
+early_folder map folder faults.OutOfMemory h = tt
+
+pub files_folder : (map : Option Files) (folder : Path) (entries : List IndexEntry) (fault : UpdateFault) → ArePackages entries → (length folder ≤ 200 → (f : Files) → map ≡ Some f → IsListed f folder entries) → FaultOfFiles folder (path_of entries) (cards_of entries) fault → FaultOfFolder map folder fault
+files_folder map folder entries (faults.Refused refusal) packages listed h = by_refusal refusal h
+  where
+    by_refusal : (r : Refusal) → IsOfFiles folder (path_of entries) (cards_of entries) r → IsOfFolder map folder r
+    by_refusal (InputMismatch at what said found) h = inr (entries, packages, listed, h)
+    by_refusal r h = tt
+files_folder map folder entries faults.HostFault packages listed h = tt
+files_folder map folder entries faults.InboxFault packages listed h = tt
+files_folder map folder entries faults.OutOfMemory packages listed h = tt

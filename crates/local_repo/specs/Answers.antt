@@ -2,7 +2,8 @@
 use Rattle.std.specs.Prelude.{◌≡◌, ℕ, List, [], length, Option, Some, None, Result, Ok, Err, if◌then◌else◌, ◌⊎◌, All, ◌≤◌}
 use Rattle.ap_host.specs.Disk.{Path, Files, Log, extended, live_of}
 use Rattle.package_core.specs.Card.{Card}
-use Rattle.machine_state.specs.declared.refusal.Refusal.TheVariants.{InputMalformed}
+use Rattle.machine_state.specs.declared.refusal.Refusal.{Refusal}
+use Rattle.machine_state.specs.declared.refusal.Refusal.TheVariants.{InputMalformed, InputMismatch}
 use Rattle.machine_state.specs.Values.{StateView}
 use Rattle.index_text.specs.Index.{Lists, IsAt, ArePackages}
 use Rattle.std.specs.List.{AllByRecursion}
@@ -16,8 +17,8 @@ use Rattle.machine_state.specs.declared.arrived.UpdateFault.{UpdateFault}
 use Rattle.hash_pool.specs.Bodies.{HasBody, DigestsApart}
 use Rattle.machine_state.specs.declared.arrived.Arrived.TheVariants as arrivals
 use Rattle.machine_state.specs.declared.arrived.UpdateFault.TheVariants as faults
-use Rattle.package_intake.specs.Index.{IndexEntry, index_bytes, cards_of}
-use Rattle.package_intake.specs.Faults.{IsInputRefusal}
+use Rattle.package_intake.specs.Index.{EndsEarlyIf, IndexEntry, index_bytes, cards_of, path_of}
+use Rattle.package_intake.specs.Faults.{IsInputRefusal, IsOfFiles}
 use Rattle.package_intake.specs.Additions.{Fills, IsFileOf}
 use Rattle.local_repo.specs.Arrival.{index_path, Arrives}
 use Rattle.local_repo.specs.Fits.{FitsIn}
@@ -77,3 +78,16 @@ pub record Adds (inbox : Option Files) (folder : Path) (known : List Card) (resu
   -- body of the list.
   pub bodies : IfList result (λ list. ForSome inbox (λ files.
       IsNamed (live_of l) → All (HasBody (live_of l)) known → DigestsApart (live_of l) files → All (HasBody (live_of (extended ops l))) list))
+
+-- What is told of a mismatch is told of the index of the folder, which ends early: its length, and the shorter one that was reached. Or
+-- it is told of the file of a package of one index, which is that of the folder if the inbox tells: a fact that is stated of it, and
+-- another one that was found.
+abbrev pub IsOfFolder : Option Files → Path → Refusal → Type 0
+IsOfFolder inbox folder (InputMismatch at what said found) =
+    EndsEarlyIf (index_path folder) (InputMismatch at what said found)
+    ⊎ ((entries : List IndexEntry) × ArePackages entries × (length folder ≤ 200 → ForSome inbox (λ files. IsListed files folder entries)) × IsOfFiles folder (path_of entries) (cards_of entries) (InputMismatch at what said found))
+IsOfFolder inbox folder refusal = Unit {0}
+
+abbrev pub FaultOfFolder : Option Files → Path → UpdateFault → Type 0
+FaultOfFolder inbox folder (faults.Refused refusal) = IsOfFolder inbox folder refusal
+FaultOfFolder inbox folder fault = Unit {0}

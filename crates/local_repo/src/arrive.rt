@@ -6,12 +6,12 @@ ghost use Rattle.ap_host.specs.Changes.{GoesOn};
 ghost use Rattle.index_text.specs.Index.{ArePackages};
 ghost use Rattle.machine_state.specs.declared.arrived.UpdateFault.TheVariants.{HostFault, InboxFault};
 ghost use Rattle.machine_state.specs.State.{IsCatalogue, Valid};
-ghost use Rattle.package_intake.specs.Index.{AreShort, cards_of};
+ghost use Rattle.package_intake.specs.Index.{AreShort, cards_of, path_of};
 ghost use Rattle.package_intake.specs.Steps.{Gives};
-ghost use Rattle.package_intake.specs.Faults.{IsAnyFault};
+ghost use Rattle.package_intake.specs.Faults.{FaultOfFiles, IsAnyFault};
 ghost use Rattle.package_intake.specs.Additions.{AddsAll};
 ghost use Rattle.local_repo.specs.Arrival.{entries_arrive, list_in};
-ghost use Rattle.local_repo.specs.Answers.{Comes, IfList, Adds};
+ghost use Rattle.local_repo.specs.Answers.{Adds, Comes, FaultOfFolder, IfList};
 ghost use Rattle.local_repo.specs.Fits.{FitsIn, Fitting};
 
 use crate::fit::check;
@@ -40,6 +40,7 @@ fn take_entries<H: Host, I: Inbox>(
     ensures told { IsCatalogue known.now → length folder.now ≤ 200 → AreShort entries.items → ForSome (I.map inbox.old) (λ f. Gives result (entries_arrive f known.now (list_in (option_copied repo.entry)) folder.now entries.items)) }
     ensures fits { IfOk result (λ list. IsCatalogue known.now → ArePackages entries.items → Fitting known.now (list_in (option_copied repo.entry)) list) }
     ensures fault { IfErr result IsAnyFault }
+    ensures mismatch { IfErr result (FaultOfFiles folder.now (path_of entries.items) (cards_of entries.items)) }
     ensures log { GoesOn (H.log host.old) (H.log host.new) (AddsAll (I.map inbox.old) (cards_of entries.items) known.now result stage.old stage.new) }
     ensures map { I.map inbox.new ≡ I.map inbox.old }
     ensures cause { CauseOf HostFault (H.faults host.old) (H.faults host.new) result }
@@ -84,6 +85,7 @@ pub fn add<H: Host, I: Inbox>(
 ) -> Result<Arrived, UpdateFault>
     ensures told { Valid state.now → length folder.now ≤ 200 → Comes (I.map inbox.old) state.now repo.now folder.now result }
     ensures fits { Valid state.now → IfList result (FitsIn state.now repo.now) }
+    ensures mismatch { IfErr result (FaultOfFolder (I.map inbox.old) folder.now) }
     ensures log { GoesOn (H.log host.old) (H.log host.new) (Adds (I.map inbox.old) folder.now state.now.known result stage.old stage.new) }
     ensures map { I.map inbox.new ≡ I.map inbox.old }
     ensures cause { CauseOf HostFault (H.faults host.old) (H.faults host.new) result }

@@ -4,7 +4,7 @@ ghost use Rattle.std.specs.Option.{option_copied};
 ghost use Rattle.package_list.specs.Answers.{append_answer};
 ghost use Rattle.machine_state.specs.declared.limit.Limit.TheVariants.{Packages};
 ghost use Rattle.package_intake.specs.Steps.{Gives, or_refused};
-ghost use Rattle.package_intake.specs.Faults.{IsOwnFault};
+ghost use Rattle.package_intake.specs.Faults.{IsOtherFault, IsOwnFault};
 ghost use Rattle.local_repo.specs.Arrival.{check_answer, list_in};
 
 use machine_state::{Limit, Repo, UpdateFault};
@@ -30,6 +30,7 @@ fn check_repository(
 ) -> Result<(), UpdateFault>
     ensures answer { Gives result (or_refused Packages (append_answer (list_in (option_copied repo.entry)) list.now)) }
     ensures fault { IfErr result IsOwnFault }
+    ensures other { IfErr result IsOtherFault }
 {
     let mut all = own_list(alloc, repo)?;
     match all.append_from(alloc, list) {
@@ -48,6 +49,7 @@ pub(crate) fn check(
 ) -> Result<(), UpdateFault>
     ensures answer { Gives result (check_answer known.now (list_in (option_copied repo.entry)) list.now) }
     ensures fault { IfErr result IsOwnFault }
+    ensures other { IfErr result IsOtherFault }
 {
     check_repository(alloc, repo, list)?;
     check_known(alloc, known, list)

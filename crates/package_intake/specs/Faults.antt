@@ -1,6 +1,9 @@
 -- What an intake refuses, and with which fault.
 use Rattle.std.specs.Prelude.{◌≡◌, ℕ, List, Some}
+use Rattle.std.specs.List.{Contains}
+use Rattle.ap_text.specs.Paths.{below_folder}
 use Rattle.ap_host.specs.Disk.{Path}
+use Rattle.package_core.specs.Card.{Card}
 use Rattle.digest_set.specs.declared.facts.Digests.{Digests}
 use Rattle.digest_set.specs.declared.facts.What.{What}
 use Rattle.digest_set.specs.Difference.{difference}
@@ -30,6 +33,35 @@ IsInputLimit _ = ⊥
 -- these are the texts of a fact that was said of a file and of what was found otherwise
 abbrev pub AreDifferent : What → List ℕ → List ℕ → Type 0
 AreDifferent what said found = (told : Said) × (is : Digests) × (difference told is ≡ Some (what, said, found))
+
+-- What is told of a mismatch is told of the file at this path, of which this was said: the first fact that was said and isn't what was
+-- found. Of a size these are the length in bytes that was stated and another one.
+abbrev pub IsOfFile : Path → Said → Refusal → Type 0
+IsOfFile path told (InputMismatch at what said found) = (at ≡ path) × (is : Digests) × (difference told is ≡ Some (what, said, found))
+IsOfFile path told refusal = Unit {0}
+
+abbrev pub FaultOfFile : Path → Said → UpdateFault → Type 0
+FaultOfFile path told (faults.Refused refusal) = IsOfFile path told refusal
+FaultOfFile path told fault = Unit {0}
+
+-- What is told of a mismatch is told of the file of one of these packages, which stand at these paths below this folder.
+abbrev pub IsOfFiles : Path → (Card → Path) → List Card → Refusal → Type 0
+IsOfFiles folder path packages (InputMismatch at what said found) =
+    (p : Card) × Contains packages p × IsOfFile (below_folder folder (path p)) p.said (InputMismatch at what said found)
+IsOfFiles folder path packages refusal = Unit {0}
+
+abbrev pub FaultOfFiles : Path → (Card → Path) → List Card → UpdateFault → Type 0
+FaultOfFiles folder path packages (faults.Refused refusal) = IsOfFiles folder path packages refusal
+FaultOfFiles folder path packages fault = Unit {0}
+
+-- nothing is told of a mismatch
+abbrev pub IsOtherRefusal : Refusal → Type 0
+IsOtherRefusal (InputMismatch at what said found) = ⊥
+IsOtherRefusal refusal = Unit {0}
+
+abbrev pub IsOtherFault : UpdateFault → Type 0
+IsOtherFault (faults.Refused refusal) = IsOtherRefusal refusal
+IsOtherFault fault = Unit {0}
 
 -- a refusal of some step of an arrival
 abbrev pub IsInputRefusal : Refusal → Type 0

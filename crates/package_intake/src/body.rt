@@ -16,7 +16,7 @@ ghost use Rattle.package_intake.specs.Taking.{IsTakenIn};
 ghost use Rattle.package_intake.specs.Inside.{IsCompleted, IfWhole};
 ghost use Rattle.package_intake.specs.Inside.{file_of};
 ghost use Rattle.package_intake.specs.Steps.{Gives};
-ghost use Rattle.package_intake.specs.Faults.{IsOwnFault, IsAnyFault};
+ghost use Rattle.package_intake.specs.Faults.{FaultOfFile, IsAnyFault, IsOwnFault};
 ghost use Rattle.package_intake.specs.Additions.{AddsOne};
 
 use crate::fault::{differs, of_pool, over};
@@ -41,6 +41,7 @@ fn completed(
     ensures answer { Gives result (compared path.now one.now found.now) }
     ensures same { IfOk result (λ q. package_cmp one.now q ≡ Equal) }
     ensures fault { IfErr result IsOwnFault }
+    ensures mismatch { IfErr result (FaultOfFile path.now one.now.said) }
 {
     let mut made = one.copy(alloc)?;
     match made.complete(alloc, found) {
@@ -63,6 +64,7 @@ fn reused(
     ensures made { IfOk result (λ q. IsWhole known.now → IsCompleted one.now q) }
     ensures same { IfOk result (λ q. package_cmp one.now q ≡ Equal) }
     ensures fault { IfErr result IsOwnFault }
+    ensures mismatch { IfErr result (FaultOfFile path.now one.now.said) }
     ensures body { IfOk result (λ q. (f : Files) → HasBody f known.now → HasBody f q) }
 {
     let found = facts_of(known);
@@ -82,6 +84,7 @@ fn fetched<H: Host, I: Inbox>(
     ensures made { IfOk result (IsCompleted one.now) }
     ensures same { IfOk result (λ q. package_cmp one.now q ≡ Equal) }
     ensures fault { IfErr result IsAnyFault }
+    ensures mismatch { IfErr result (FaultOfFile path.now one.now.said) }
     ensures log { GoesOn (H.log host.old) (H.log host.new) (AddsOne (I.map inbox.old) one.now (λ _. Unit {0}) result stage.old stage.new) }
     ensures map { I.map inbox.new ≡ I.map inbox.old }
     ensures cause { CauseOf HostFault (H.faults host.old) (H.faults host.new) result }
@@ -108,6 +111,7 @@ fn made<H: Host, I: Inbox>(
     ensures made { IfOk result (λ q. IfWhole (file_of files.now one.now.said.sha256) (IsCompleted one.now q)) }
     ensures same { IfOk result (λ q. package_cmp one.now q ≡ Equal) }
     ensures fault { IfErr result IsAnyFault }
+    ensures mismatch { IfErr result (FaultOfFile path.now one.now.said) }
     ensures log { GoesOn (H.log host.old) (H.log host.new) (AddsOne (I.map inbox.old) one.now (λ f. IfSome (file_of files.now one.now.said.sha256) (HasBody f)) result stage.old stage.new) }
     ensures map { I.map inbox.new ≡ I.map inbox.old }
     ensures cause { CauseOf HostFault (H.faults host.old) (H.faults host.new) result }
@@ -135,6 +139,7 @@ pub(crate) fn take_one<H: Host, I: Inbox>(
     ensures taken { IfOk result (λ q. IsCatalogue known.now → IsPackage one.now → IsSaid one.now.said → IsTakenIn known.now one.now q) }
     ensures same { IfOk result (λ q. package_cmp one.now q ≡ Equal) }
     ensures fault { IfErr result IsAnyFault }
+    ensures mismatch { IfErr result (FaultOfFile path.now one.now.said) }
     ensures log { GoesOn (H.log host.old) (H.log host.new) (AddsOne (I.map inbox.old) one.now (λ f. All (HasBody f) known.now) result stage.old stage.new) }
     ensures map { I.map inbox.new ≡ I.map inbox.old }
     ensures cause { CauseOf HostFault (H.faults host.old) (H.faults host.new) result }

@@ -7,7 +7,7 @@ ghost use Rattle.machine_state.specs.Limits.{limit_number};
 ghost use Rattle.machine_state.specs.State.{text_length};
 ghost use Rattle.package_intake.specs.Catalogue.{known_answer, within_catalogue};
 ghost use Rattle.package_intake.specs.Steps.{Gives};
-ghost use Rattle.package_intake.specs.Faults.{IsOwnFault};
+ghost use Rattle.package_intake.specs.Faults.{IsOtherFault, IsOwnFault};
 
 use crate::fault::{of_list, over};
 use machine_state::{Limit, UpdateFault};
@@ -38,6 +38,7 @@ fn known_with(
 ) -> Result<PackageList, UpdateFault>
     ensures answer { Gives result (known_answer (union known.now list.now)) }
     ensures fault { IfErr result IsOwnFault }
+    ensures other { IfErr result IsOtherFault }
 {
     let mut all = known.copy(alloc)?;
     match all.join_known(alloc, list) {
@@ -54,6 +55,7 @@ pub fn check_known(
 ) -> Result<(), UpdateFault>
     ensures answer { Gives result (within_catalogue (union known.now list.now)) }
     ensures fault { IfErr result IsOwnFault }
+    ensures other { IfErr result IsOtherFault }
 {
     let all = known_with(alloc, known, list)?;
     if is_too_long(all.as_slice()) {

@@ -10,7 +10,7 @@ ghost use Rattle.package_intake.specs.Index.{cards_of, entry_for};
 ghost use Rattle.package_intake.specs.Steps.{or_refused};
 ghost use Rattle.package_intake.specs.Inside.{path_in};
 ghost use Rattle.package_intake.specs.Steps.{Gives};
-ghost use Rattle.package_intake.specs.Faults.{IsOwnFault};
+ghost use Rattle.package_intake.specs.Faults.{IsOtherFault, IsOwnFault};
 
 use crate::by_package::ByPackage;
 use crate::fault::of_list;
@@ -58,6 +58,7 @@ pub fn split(
 pub fn join(alloc: Global, packages: &[Rc<SharedPackage>]) -> Result<PackageList, UpdateFault>
     ensures answer { Gives result (or_refused Packages (join_answer (map rc_value packages.now))) }
     ensures fault { IfErr result IsOwnFault }
+    ensures other { IfErr result IsOtherFault }
 {
     match PackageList::from_shared(alloc, packages) {
         Ok(list) => Ok(list),

@@ -14,7 +14,7 @@ ghost use Rattle.machine_state.specs.declared.arrived.UpdateFault.TheVariants.{H
 ghost use Rattle.machine_state.specs.State.{IsCatalogue};
 ghost use Rattle.package_intake.specs.Taking.{AreTakenIn, IsTakenIn, each_taken, known_of, taken_file};
 ghost use Rattle.package_intake.specs.Steps.{Gives};
-ghost use Rattle.package_intake.specs.Faults.{IsAnyFault, IsOwnFault};
+ghost use Rattle.package_intake.specs.Faults.{FaultOfFile, FaultOfFiles, IsAnyFault, IsOtherFault, IsOwnFault};
 ghost use Rattle.package_intake.specs.Additions.{AddsAll, AddsOne};
 ghost use Rattle.hash_pool.specs.Bodies.{HasBody};
 ghost use Rattle.package_intake.specs.Inside.{file_of, path_at};
@@ -44,6 +44,7 @@ fn path_of(
     ensures path { IfOk result (λ path. path ≡ below_folder folder.now (path_at paths.now one.now.value)) }
     ensures short { length (below_folder folder.now (path_at paths.now one.now.value)) ≤ 1000 → IfErr result (λ e. e ≡ OutOfMemory) }
     ensures fault { IfErr result IsOwnFault }
+    ensures other { IfErr result IsOtherFault }
 {
     match paths.get(&ByPackage::new(one.clone()?)) {
         Some(path) => path_below(alloc, folder, path),
@@ -69,6 +70,7 @@ fn take_next<H: Host, I: Inbox>(
     ensures taken { IfOk result (λ q. IsCatalogue known.now → IsPackage one.now.value → IsSaid one.now.value.said → IsTakenIn known.now one.now.value q) }
     ensures same { IfOk result (λ q. package_cmp one.now.value q ≡ Equal) }
     ensures fault { IfErr result IsAnyFault }
+    ensures mismatch { IfErr result (FaultOfFile (below_folder folder.now (path_at paths.now one.now.value)) one.now.value.said) }
     ensures log { GoesOn (H.log host.old) (H.log host.new) (AddsOne (I.map inbox.old) one.now.value (λ f. All (HasBody f) known.now) result stage.old stage.new) }
     ensures map { I.map inbox.new ≡ I.map inbox.old }
     ensures cause { CauseOf HostFault (H.faults host.old) (H.faults host.new) result }
@@ -103,6 +105,7 @@ pub fn take_all<H: Host, I: Inbox>(
     ensures told { IsCatalogue known.now → All (λ p. length (below_folder folder.now (path_at paths.now p)) ≤ 1000) list.now → ForSome (I.map inbox.old) (λ f. Gives result (each_taken (λ p. taken_file f known.now (below_folder folder.now (path_at paths.now p)) p) list.now)) }
     ensures taken { IfOk result (λ qs. IsCatalogue known.now → All (λ p. IsPackage p × IsSaid p.said) list.now → AreTakenIn known.now list.now qs) }
     ensures fault { IfErr result IsAnyFault }
+    ensures mismatch { IfErr result (FaultOfFiles folder.now (path_at paths.now) list.now) }
     ensures log { GoesOn (H.log host.old) (H.log host.new) (AddsAll (I.map inbox.old) list.now known.now result stage.old stage.new) }
     ensures map { I.map inbox.new ≡ I.map inbox.old }
     ensures cause { CauseOf HostFault (H.faults host.old) (H.faults host.new) result }

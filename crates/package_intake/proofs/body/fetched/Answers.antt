@@ -5,7 +5,7 @@ use Rattle.digest_set.specs.declared.facts.Digests.{Digests}
 use Rattle.hash_pool.specs.declared.fault.PoolFault.{PoolFault}
 use Rattle.ap_host.proofs.ChangeLemmas.{GoesOn-map}
 use Rattle.package_intake.proofs.LogLemmas.{made_of, fetched_adds}
-use Rattle.package_intake.proofs.FaultLemmas.{pool_any}
+use Rattle.package_intake.proofs.FaultLemmas.{pool_any, pool_file}
 use Rattle.package_intake.proofs.body.fetched.Goals as goal
 
 with_found : (out : Result Card UpdateFault) (p : Card) (r : Result Digests PoolFault) (found : Digests) (D : Type 0) → r ≡ Ok found → IfOk out (λ q. D × (q ≡ completed p found)) → IfOk out (λ q. (d : Digests) × (r ≡ Ok d) × (q ≡ completed p d))
@@ -26,3 +26,7 @@ returns-in-Err-clause-log g c =
 pub returns-in-Err-clause-fault : goal.returns-in-Err-clause-fault
 returns-in-Err-clause-fault g c =
     pool_any c.args.path.now c.args.one.now.said c.in-Err.fault c.of_pool.result c.of_pool.ensures c.in-Err.ensures.compares
+
+pub returns-in-Err-clause-mismatch : goal.returns-in-Err-clause-mismatch
+returns-in-Err-clause-mismatch g c =
+    pool_file c.args.path.now c.args.one.now.said c.in-Err.fault c.of_pool.result c.of_pool.ensures c.in-Err.ensures.compares

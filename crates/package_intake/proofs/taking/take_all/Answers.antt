@@ -22,6 +22,8 @@ use Rattle.hash_pool.specs.Bodies.{HasBody}
 use Rattle.package_intake.specs.Inside.{path_at}
 use Rattle.package_intake.specs.Taking.{AreTakenIn}
 use Rattle.package_intake.proofs.ListLemmas.{AreEqual, ascending_alike, next_taken, at_member, all_first, split_at}
+use Rattle.package_intake.specs.Faults.{FaultOfFiles}
+use Rattle.package_intake.proofs.FaultLemmas.{among_files, handed_on}
 use Rattle.package_intake.proofs.TakenLemmas.{each_more, each_fault, taken_more, equal_more}
 use Rattle.package_intake.proofs.LogLemmas.{all_none, all_nothing, all_more, all_stops}
 use Rattle.package_intake.proofs.taking.take_all.Goals as goal
@@ -83,6 +85,13 @@ returns-in_err-push-clause-log g c =
     let log = subst (λ m. GoesOn (g.H.Host.log c.loop-one.host) (g.H.Host.log c.take_next.new.host) (AddsOne m c.one-item.result.value (λ f. All (HasBody f) c.args.known.now) c.take_next.result c.loop-one.stage c.take_next.new.stage)) c.loop-one.invariant.inbox_same c.take_next.ensures.log in
     let member = at_member rc_value (Contains c.args.list.now) c.as_slice-one-items.result.now c.args.list.now c.loop-one.one-index c.one-item.result c.as_slice-one-items.ensures (All-contains_itself c.args.list.now) c.loop-one-test.true c.one-item.is in
     GoesOn-then _ _ _ _ _ _ c.loop-one.invariant.log log (λ l a b h n. all_stops _ _ _ _ c.one-item.result.value member _ _ _ _ l a b h n c.from_residual-in_err-push.result c.from_residual-in_err-push.ensures.0)
+
+pub returns-in_err-next-clause-mismatch : goal.returns-in_err-next-clause-mismatch
+returns-in_err-next-clause-mismatch g c =
+    let e = err_from_is_err_and c.from_residual-in_err-next.result c.from_residual-in_err-next.ensures.1 in
+    let member = at_member rc_value (Contains c.args.list.now) c.as_slice-one-items.result.now c.args.list.now c.loop-one.one-index c.one-item.result c.as_slice-one-items.ensures (All-contains_itself c.args.list.now) c.loop-one-test.true c.one-item.is in
+    handed_on c.from_residual-in_err-next.result (FaultOfFiles c.args.folder.now (path_at c.args.paths.now) c.args.list.now) e.0 c.in_err-next.field-0.0 e.1 e.2
+    (among_files c.args.folder.now (path_at c.args.paths.now) c.args.list.now c.one-item.result.value c.in_err-next.field-0.0 member c.in_err-next.ensures.mismatch)
 
 pub loop-one-preserved : goal.loop-one-preserved
 loop-one-preserved g c =
