@@ -26,7 +26,8 @@ use Rattle.machine_state.specs.declared.arrived.UpdateFault.TheVariants as updat
 use Rattle.machine_state.specs.Ascending as ascending
 use Rattle.machine_state.specs.State.{Valid, repo_cmp}
 use Rattle.machine_state.specs.Values.{StateView}
-use Rattle.local_repo.specs.Answers.{IsArrival, Comes, Adds, IfList, Fills}
+use Rattle.local_repo.specs.Answers.{IsArrival, Comes, Adds, IfList}
+use Rattle.package_intake.specs.Additions.{Fills}
 use Rattle.hash_pool.specs.Bodies.{HasBody, IsMet, DigestsApart}
 use Rattle.reply_text.specs.Refusals.{refusal_line}
 use Rattle.reply_text.specs.Replies as replies

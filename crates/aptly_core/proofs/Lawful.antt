@@ -18,7 +18,7 @@ use Rattle.package_list.specs.Lists.{union}
 use Rattle.local_repo.specs.Arrival.{list_of}
 use Rattle.local_repo.specs.Fits.{added}
 use Rattle.machine_step.specs.Step.{Given, Came, Step, new_repo, refused, added_reply, taken_in, done, came_to}
-use Rattle.local_repo.proofs.EntryLemmas.{listed_packages}
+use Rattle.package_intake.proofs.EntryLemmas.{listed_packages}
 use Rattle.local_repo.proofs.LawLemmas.{arrives_fit}
 use Rattle.local_repo.proofs.TotalLemmas.{some_arrives}
 use Rattle.machine_step.proofs.LawLemmas.{Fit, Some_arrives, says_step, valid_step, total_step}

@@ -10,7 +10,7 @@ use Rattle.package_list.specs.Lists.{union}
 use Rattle.package_list.specs.Answers.{append_answer}
 use Rattle.machine_state.specs.declared.limit.Limit.TheVariants.{Packages, Known, Catalogue}
 use Rattle.machine_state.specs.declared.refusal.Refusal.{Refusal}
-use Rattle.machine_state.specs.declared.refusal.Refusal.TheVariants.{Limit}
+use Rattle.machine_state.specs.declared.refusal.Refusal.TheVariants.{InputMismatch, Limit}
 use Rattle.machine_state.specs.declared.arrived.Arrived.{Arrived}
 use Rattle.machine_state.specs.declared.arrived.Arrived.TheVariants as arrivals
 use Rattle.machine_state.specs.declared.arrived.UpdateFault.{UpdateFault}
@@ -18,13 +18,19 @@ use Rattle.machine_state.specs.declared.arrived.UpdateFault.TheVariants as fault
 use Rattle.machine_state.specs.Limits.{limit_number}
 use Rattle.machine_state.specs.State.{Valid, text_length}
 use Rattle.machine_state.specs.Values.{StateView}
-use Rattle.local_repo.specs.Arrival.{Entry, cards_of, Arrives, BytesArrive, or_refused, check_answer, within_catalogue, known_answer, entries_arrive, list_of}
+use Rattle.package_intake.specs.Index.{EndsEarlyIf, IndexEntry, OfIndex, cards_of, path_of}
+use Rattle.local_repo.specs.Arrival.{Arrives, BytesArrive, check_answer, entries_arrive, index_path, list_of}
+use Rattle.package_intake.specs.Steps.{or_refused}
+use Rattle.package_intake.specs.Catalogue.{within_catalogue, known_answer}
 use Rattle.index_text.specs.Index.{ArePackages}
 use Rattle.local_repo.specs.Fits.{FitsIn, Fitting}
-use Rattle.local_repo.specs.Answers.{FaultGives, IsAnyFault, IsInputFault, IsArrival, IsListed, IsUnlisted, Comes, Adds, AddsAll}
+use Rattle.package_intake.specs.Steps.{FaultGives}
+use Rattle.package_intake.specs.Faults.{FaultOfFiles, IsAnyFault, IsInputFault, IsOfFiles}
+use Rattle.local_repo.specs.Answers.{Adds, Comes, FaultOfFolder, IsArrival, IsListed, IsOfFolder, IsUnlisted}
+use Rattle.package_intake.specs.Additions.{AddsAll}
 use Rattle.local_repo.proofs.FitLemmas.{taken_fits}
-use Rattle.local_repo.proofs.TakenLemmas.{went_on}
-use Rattle.local_repo.proofs.LogLemmas.{all_nothing}
+use Rattle.package_intake.proofs.TakenLemmas.{went_on}
+use Rattle.package_intake.proofs.LogLemmas.{all_nothing}
 
 module _ (files : Files) (state : StateView) (name : List ℕ) (folder : Path) where
   -- an error is what arrives
@@ -34,11 +40,11 @@ module _ (files : Files) (state : StateView) (name : List ℕ) (folder : Path) w
   FaultArrives faults.InboxFault = Unit {0}
   FaultArrives faults.OutOfMemory = Unit {0}
 
-  pub listed_arrives : (entries : List Entry) (arrived : Result (List Card) Refusal) → IsListed files folder entries → entries_arrive files state.known (list_of state name) folder entries ≡ arrived → Arrives files state name folder arrived
+  pub listed_arrives : (entries : List IndexEntry) (arrived : Result (List Card) Refusal) → IsListed files folder entries → entries_arrive files state.known (list_of state name) folder entries ≡ arrived → Arrives files state name folder arrived
   unfolding Arrives
   listed_arrives entries arrived l e = subst (λ r. BytesArrive files state name folder r arrived) (sym l.there) (Ok entries, l.lists, sym e)
 
-  pub listed_fault : (entries : List Entry) (fault : UpdateFault) → IsListed files folder entries → FaultGives fault (entries_arrive files state.known (list_of state name) folder entries) → FaultArrives fault
+  pub listed_fault : (entries : List IndexEntry) (fault : UpdateFault) → IsListed files folder entries → FaultGives fault (entries_arrive files state.known (list_of state name) folder entries) → FaultArrives fault
   listed_fault entries (faults.Refused refusal) l e = listed_arrives entries (Err refusal) l e
   listed_fault entries faults.HostFault l e = tt
   listed_fault entries faults.InboxFault l e = tt
@@ -109,10 +115,10 @@ checks known own list h =
 pub fitting_fits : (state : StateView) (name : List ℕ) (own list : List Card) → Valid state → own ≡ list_of state name → Fitting state.known own list → FitsIn state name list
 fitting_fits state name own list v e f =
     let c = checks state.known own list f.checked in
-    taken_fits state name f.joined list v f.ascending f.taken (ap (λ (x : List Card). append_answer x list) (sym e) ∙ c.appended) c.few c.texts
+    taken_fits state name f.packages list v f.ascending f.taken (ap (λ (x : List Card). append_answer x list) (sym e) ∙ c.appended) c.few c.texts
 
 -- ---- the log
-module _ (map : Option Files) (folder : Path) (entries : List Entry) (packages : ArePackages entries) (listed : length folder ≤ 200 → (f : Files) → map ≡ Some f → IsListed f folder entries) (known : List Card) where
+module _ (map : Option Files) (folder : Path) (entries : List IndexEntry) (packages : ArePackages entries) (listed : length folder ≤ 200 → (f : Files) → map ≡ Some f → IsListed f folder entries) (known : List Card) where
   pub adds_list : (list : List Card) (date : List ℕ) (s t : StageState) (l : Log) (a : List Op) → AddsAll map (cards_of entries) known (Ok list) s t l a → Adds map folder known (Ok (arrivals.List list date)) s t l a
   adds_list list date s t l a h = record { grows = h.grows; marked = h.marked; step = h.step; fills = h.fills; names = inr (entries, packages, listed, h.names); bodies = λ f told named all apart. h.bodies f told named apart all }
 
@@ -131,3 +137,24 @@ of_input (faults.Refused refusal) h = h
 of_input faults.HostFault h = absurd h
 of_input faults.InboxFault h = tt
 of_input faults.OutOfMemory h = tt
+
+-- ---- of what a mismatch is told
+pub early_folder : (map : Option Files) (folder : Path) (fault : UpdateFault) → OfIndex (index_path folder) fault → FaultOfFolder map folder fault
+early_folder map folder (faults.Refused refusal) h = by_refusal refusal h
+  where
+    by_refusal : (r : Refusal) → EndsEarlyIf (index_path folder) r → IsOfFolder map folder r
+    by_refusal (InputMismatch at what said found) h = inl h
+    by_refusal r h = tt
+early_folder map folder faults.HostFault h = tt
+early_folder map folder faults.InboxFault h = tt
+early_folder map folder faults.OutOfMemory h = tt
+
+pub files_folder : (map : Option Files) (folder : Path) (entries : List IndexEntry) (fault : UpdateFault) → ArePackages entries → (length folder ≤ 200 → (f : Files) → map ≡ Some f → IsListed f folder entries) → FaultOfFiles folder (path_of entries) (cards_of entries) fault → FaultOfFolder map folder fault
+files_folder map folder entries (faults.Refused refusal) packages listed h = by_refusal refusal h
+  where
+    by_refusal : (r : Refusal) → IsOfFiles folder (path_of entries) (cards_of entries) r → IsOfFolder map folder r
+    by_refusal (InputMismatch at what said found) h = inr (entries, packages, listed, h)
+    by_refusal r h = tt
+files_folder map folder entries faults.HostFault packages listed h = tt
+files_folder map folder entries faults.InboxFault packages listed h = tt
+files_folder map folder entries faults.OutOfMemory packages listed h = tt

@@ -23,10 +23,14 @@ use Rattle.machine_state.specs.declared.limit.Limit.TheVariants.{Packages}
 use Rattle.machine_state.specs.declared.refusal.Refusal.{Refusal}
 use Rattle.machine_state.specs.declared.arrived.UpdateFault.{UpdateFault}
 use Rattle.machine_state.specs.declared.arrived.UpdateFault.TheVariants as faults
-use Rattle.local_repo.specs.Arrival.{Entry, and_then, or_refused, cards_of, entry_for, path_of, taken, each_taken, check_answer, fitting, entries_arrive}
-use Rattle.local_repo.specs.Answers.{Gives, FaultGives, AreShort}
-use Rattle.local_repo.specs.Files.{path_at}
-use Rattle.local_repo.proofs.ListLemmas.{by_places, each_of, all_map, all_union, each_itself}
+use Rattle.package_intake.specs.Index.{IndexEntry, cards_of, entry_for, path_of}
+use Rattle.package_intake.specs.Steps.{and_then, or_refused}
+use Rattle.package_intake.specs.Taking.{taken_file, each_taken}
+use Rattle.local_repo.specs.Arrival.{check_answer, fitting, entries_arrive}
+use Rattle.package_intake.specs.Steps.{Gives, FaultGives}
+use Rattle.package_intake.specs.Index.{AreShort}
+use Rattle.package_intake.specs.Inside.{path_at}
+use Rattle.package_intake.proofs.ListLemmas.{by_places, each_of, all_map, all_union, each_itself}
 
 -- ---- packages that are joined
 pub joined_is : (limit : LimitKind) (cards list : List Card) → or_refused limit (join_answer cards) ≡ Ok list → list ≡ joined cards
@@ -39,42 +43,42 @@ joined_is limit cards list h = by_refusal (first_refusal [] cards) h
 pub joined_ascending : (cards : List Card) → IsAscending package_cmp (joined cards)
 joined_ascending cards = union_ascending package_total [] cards tt
 
-cards_hold : (P : Card → Type 0) (entries : List Entry) → AllByRecursion (λ e. P e.0) entries → AllByRecursion P (cards_of entries)
+cards_hold : (P : Card → Type 0) (entries : List IndexEntry) → AllByRecursion (λ e. P e.0) entries → AllByRecursion P (cards_of entries)
 cards_hold P [] h = tt
 cards_hold P (e ∷ es) h = (h.0, cards_hold P es h.1)
 
-pub joined_good : (entries : List Entry) → ArePackages entries → All (λ p. IsPackage p × IsSaid p.said) (joined (cards_of entries))
+pub joined_good : (entries : List IndexEntry) → ArePackages entries → All (λ p. IsPackage p × IsSaid p.said) (joined (cards_of entries))
 joined_good entries h = by_places (λ p. IsPackage p × IsSaid p.said) (joined (cards_of entries)) (all_union package_total (λ p. IsPackage p × IsSaid p.said) [] (cards_of entries) tt (cards_hold (λ p. IsPackage p × IsSaid p.said) entries h))
 
-pub joined_among : (entries : List Entry) (p : Card) → Contains (joined (cards_of entries)) p → Contains (cards_of entries) p
+pub joined_among : (entries : List IndexEntry) (p : Card) → Contains (joined (cards_of entries)) p → Contains (cards_of entries) p
 joined_among entries p h =
     All-contains (Contains (cards_of entries)) (joined (cards_of entries)) p
     (by_places (Contains (cards_of entries)) (joined (cards_of entries)) (all_union package_total (Contains (cards_of entries)) [] (cards_of entries) tt (each_of (Contains (cards_of entries)) (cards_of entries) (All-contains_itself (cards_of entries)))))
     h
 
 -- ---- the paths of what was joined
-abbrev pub There : List Entry → Card → Type 0
+abbrev pub There : List IndexEntry → Card → Type 0
 There entries p = (rest : Path) × (entry_for entries p ≡ Some rest) × (AreShort entries → length rest ≤ 700)
 
-found_path : (entries : List Entry) (p q : Card) → equal_of package_cmp (cards_of entries) p ≡ Some q → There entries p
+found_path : (entries : List IndexEntry) (p q : Card) → equal_of package_cmp (cards_of entries) p ≡ Some q → There entries p
 found_path [] p q e = cc
 found_path (x ∷ xs) p q e = by_test (is_eq (package_cmp x.0 p)) e (found_path xs p q)
   where
-    by_test : (b : Bool) → cond b (Some x.0) (equal_of package_cmp (cards_of xs) p) ≡ Some q → (equal_of package_cmp (cards_of xs) p ≡ Some q → There xs p) → (rest : Path) × (option_map (λ (e : Entry). e.1) (cond b (Some x) (find (λ e. is_eq (package_cmp e.0 p)) xs)) ≡ Some rest) × (AreShort (x ∷ xs) → length rest ≤ 700)
+    by_test : (b : Bool) → cond b (Some x.0) (equal_of package_cmp (cards_of xs) p) ≡ Some q → (equal_of package_cmp (cards_of xs) p ≡ Some q → There xs p) → (rest : Path) × (option_map (λ (e : IndexEntry). e.1) (cond b (Some x) (find (λ e. is_eq (package_cmp e.0 p)) xs)) ≡ Some rest) × (AreShort (x ∷ xs) → length rest ≤ 700)
     by_test true g more = (x.1, refl, λ h. h.0)
     by_test false g more = let t = more g in (t.0, t.1, λ h. t.2 h.1)
 
-paths_of : (entries : List Entry) (ps : List Card) → AllByRecursion (λ p. equal_of package_cmp (joined (cards_of entries)) p ≡ Some p) ps → AllByRecursion (There entries) ps
+paths_of : (entries : List IndexEntry) (ps : List Card) → AllByRecursion (λ p. equal_of package_cmp (joined (cards_of entries)) p ≡ Some p) ps → AllByRecursion (There entries) ps
 paths_of entries [] e = tt
 paths_of entries (p ∷ ps) e = (found_path entries p p (sym (equal_of_union package_total [] (cards_of entries) p tt) ∙ e.0), paths_of entries ps e.1)
 
-pub joined_paths : (entries : List Entry) → AllByRecursion (There entries) (joined (cards_of entries))
+pub joined_paths : (entries : List IndexEntry) → AllByRecursion (There entries) (joined (cards_of entries))
 joined_paths entries = paths_of entries (joined (cards_of entries)) (each_itself package_total (joined (cards_of entries)) (joined_ascending (cards_of entries)))
 
-pub paths_there : (paths : BTreeMap Card Path) (entries : List Entry) (ps : List Card) → ((q : Card) → get package_cmp paths q ≡ entry_for entries q) → AllByRecursion (There entries) ps → All (λ p. IsSome (get package_cmp paths p)) ps
+pub paths_there : (paths : BTreeMap Card Path) (entries : List IndexEntry) (ps : List Card) → ((q : Card) → get package_cmp paths q ≡ entry_for entries q) → AllByRecursion (There entries) ps → All (λ p. IsSome (get package_cmp paths p)) ps
 paths_there paths entries ps same h = by_places (λ p. IsSome (get package_cmp paths p)) ps (all_map (There entries) (λ p. IsSome (get package_cmp paths p)) (λ p t. subst (λ (o : Option Path). IsSome o) (sym (same p ∙ t.1)) refl) ps h)
 
-pub paths_short : (paths : BTreeMap Card Path) (entries : List Entry) (folder : Path) (ps : List Card) → ((q : Card) → get package_cmp paths q ≡ entry_for entries q) → length folder ≤ 200 → AreShort entries → AllByRecursion (There entries) ps → All (λ p. length (below_folder folder (path_at paths p)) ≤ 1000) ps
+pub paths_short : (paths : BTreeMap Card Path) (entries : List IndexEntry) (folder : Path) (ps : List Card) → ((q : Card) → get package_cmp paths q ≡ entry_for entries q) → length folder ≤ 200 → AreShort entries → AllByRecursion (There entries) ps → All (λ p. length (below_folder folder (path_at paths p)) ≤ 1000) ps
 paths_short paths entries folder ps same small short h = by_places (λ p. length (below_folder folder (path_at paths p)) ≤ 1000) ps (all_map (There entries) (λ p. length (below_folder folder (path_at paths p)) ≤ 1000) one ps h)
   where
     one : (p : Card) → There entries p → length (below_folder folder (path_at paths p)) ≤ 1000
@@ -82,8 +86,8 @@ paths_short paths entries folder ps same small short h = by_places (λ p. length
         let is : path_at paths p ≡ t.0 = ap (λ o. unwrap_or o []) (same p ∙ t.1) in
         subst (λ (rest : Path). length (below_folder folder rest) ≤ 1000) (sym is) (omega (arith, length-append folder (47 ∷ t.0), small, t.2 short))
 
-pub same_steps : (files : Files) (known : List Card) (folder : Path) (paths : BTreeMap Card Path) (entries : List Entry) (ps : List Card) → ((q : Card) → get package_cmp paths q ≡ entry_for entries q) → each_taken (λ p. taken files known (below_folder folder (path_at paths p)) p) ps ≡ each_taken (λ p. taken files known (below_folder folder (path_of entries p)) p) ps
-same_steps files known folder paths entries ps same = (λ i. each_taken (λ p. taken files known (below_folder folder (unwrap_or (same p i) [])) p) ps)
+pub same_steps : (files : Files) (known : List Card) (folder : Path) (paths : BTreeMap Card Path) (entries : List IndexEntry) (ps : List Card) → ((q : Card) → get package_cmp paths q ≡ entry_for entries q) → each_taken (λ p. taken_file files known (below_folder folder (path_at paths p)) p) ps ≡ each_taken (λ p. taken_file files known (below_folder folder (path_of entries p)) p) ps
+same_steps files known folder paths entries ps same = (λ i. each_taken (λ p. taken_file files known (below_folder folder (unwrap_or (same p i) [])) p) ps)
 
 -- ---- the steps one after the other
 fault_then : {X Y : Type 0} (fault : UpdateFault) (r : Result X Refusal) (f : X → Result Y Refusal) → FaultGives fault r → FaultGives fault (and_then r f)
@@ -95,9 +99,9 @@ fault_then (faults.Refused refusal) r f h = ap (λ x. and_then x f) h
 fault_behind : {X Y : Type 0} (fault : UpdateFault) (r : Result X Refusal) (f : X → Result Y Refusal) (x : X) → r ≡ Ok x → FaultGives fault (f x) → FaultGives fault (and_then r f)
 fault_behind {X = X} {Y = Y} fault r f x e h = subst (λ (y : Result X Refusal). FaultGives fault (and_then y f)) (sym e) h
 
-module _ (files : Files) (known own : List Card) (folder : Path) (entries : List Entry) where
+module _ (files : Files) (known own : List Card) (folder : Path) (entries : List IndexEntry) where
   abbrev steps : List Card → Result (List Card) Refusal
-  steps ps = each_taken (λ p. taken files known (below_folder folder (path_of entries p)) p) ps
+  steps ps = each_taken (λ p. taken_file files known (below_folder folder (path_of entries p)) p) ps
 
   pub join_fault : (fault : UpdateFault) → FaultGives fault (or_refused Packages (join_answer (cards_of entries))) → FaultGives fault (entries_arrive files known own folder entries)
   unfolding entries_arrive

@@ -26,8 +26,9 @@ use Rattle.machine_state.specs.Limits.{limit_number}
 use Rattle.machine_state.specs.State.{IsRepo, IsKnown, IsNamedList, IsCatalogue, Valid, repo_cmp, repo_of, text_length}
 use Rattle.machine_state.specs.Values.{StateView}
 use Rattle.local_repo.specs.Arrival.{list_in, list_of}
-use Rattle.local_repo.specs.Fits.{with_more, FitsIn, IsTaken, AreTaken}
-use Rattle.local_repo.proofs.ListLemmas.{by_places, each_of, all_map, all_union, found_holds, each_itself, AreEqual, ascending_alike}
+use Rattle.local_repo.specs.Fits.{with_more, FitsIn}
+use Rattle.package_intake.specs.Taking.{IsTakenIn, AreTakenIn}
+use Rattle.package_intake.proofs.ListLemmas.{by_places, each_of, all_map, all_union, found_holds, each_itself, AreEqual, ascending_alike}
 
 -- ---- clashes
 and_flip : (a b c d : Bool) → a ≡ c → b ≡ d → (a && b) ≡ (c && d)
@@ -124,22 +125,22 @@ list_more : (known list own : List Card) → IsAscending package_cmp known → I
 list_more known list own a n = record { sorted = n.sorted; apart = n.apart; listed = known_all known list own a n.listed; few = n.few }
 
 -- ---- what was taken
-taken_equal : (known ps qs : List Card) → AreTaken known ps qs → AreEqual package_total ps qs
+taken_equal : (known ps qs : List Card) → AreTakenIn known ps qs → AreEqual package_total ps qs
 taken_equal known [] [] h = tt
 taken_equal known [] (q ∷ qs) h = absurd h
 taken_equal known (p ∷ ps) [] h = absurd h
 taken_equal known (p ∷ ps) (q ∷ qs) h = (h.0.same, taken_equal known ps qs h.1)
 
-taken_all : (known ps qs : List Card) (P : Card → Type 0) → ((p q : Card) → IsTaken known p q → P q) → AreTaken known ps qs → AllByRecursion P qs
+taken_all : (known ps qs : List Card) (P : Card → Type 0) → ((p q : Card) → IsTakenIn known p q → P q) → AreTakenIn known ps qs → AllByRecursion P qs
 taken_all known [] [] P f h = tt
 taken_all known [] (q ∷ qs) P f h = absurd h
 taken_all known (p ∷ ps) [] P f h = absurd h
 taken_all known (p ∷ ps) (q ∷ qs) P f h = (f p q h.0, taken_all known ps qs P f h.1)
 
-pub taken_ascending : (known ps qs : List Card) → AreTaken known ps qs → IsAscending package_cmp ps → IsAscending package_cmp qs
+pub taken_ascending : (known ps qs : List Card) → AreTakenIn known ps qs → IsAscending package_cmp ps → IsAscending package_cmp qs
 taken_ascending known ps qs h a = ascending_alike package_total ps qs (taken_equal known ps qs h) a
 
-taken_known : (known ps qs : List Card) → IsAscending package_cmp known → IsAscending package_cmp qs → AreTaken known ps qs → AllByRecursion (IsKnown (union known qs)) qs
+taken_known : (known ps qs : List Card) → IsAscending package_cmp known → IsAscending package_cmp qs → AreTakenIn known ps qs → AllByRecursion (IsKnown (union known qs)) qs
 taken_known known ps qs a b h = each qs (taken_all known ps qs (λ q. (equal_of package_cmp known q ≡ Some q) ⊎ (equal_of package_cmp known q ≡ None)) (λ p q t. t.stands) h) (each_itself package_total qs b)
   where
     one : (q : Card) → (equal_of package_cmp known q ≡ Some q) ⊎ (equal_of package_cmp known q ≡ None) → equal_of package_cmp qs q ≡ Some q → IsKnown (union known qs) q
@@ -151,7 +152,7 @@ taken_known known ps qs a b h = each qs (taken_all known ps qs (λ q. (equal_of 
     each (x ∷ xs) s m = (one x s.0 m.0, each xs s.1 m.1)
 
 -- ---- the catalogue
-catalogue_more : (known ps list : List Card) → IsCatalogue known → AreTaken known ps list → length (union known list) ≤ limit_number Known → text_length (union known list) ≤ limit_number Catalogue → IsCatalogue (union known list)
+catalogue_more : (known ps list : List Card) → IsCatalogue known → AreTakenIn known ps list → length (union known list) ≤ limit_number Known → text_length (union known list) ≤ limit_number Catalogue → IsCatalogue (union known list)
 catalogue_more known ps list c t few texts = record {
   packages = by_places IsWhole (union known list) (all_union package_total IsWhole known list (each_of IsWhole known c.packages) (taken_all known ps list IsWhole (λ p q h. h.whole) t));
   sorted = union_ascending package_total known list c.sorted;
@@ -161,7 +162,7 @@ catalogue_more known ps list c t few texts = record {
 }
 
 -- ---- the repository's list
-list_added : (known ps own list : List Card) → IsAscending package_cmp known → IsNamedList known own → IsAscending package_cmp ps → AreTaken known ps list → Appends own list → IsNamedList (union known list) (union own list)
+list_added : (known ps own list : List Card) → IsAscending package_cmp known → IsNamedList known own → IsAscending package_cmp ps → AreTakenIn known ps list → Appends own list → IsNamedList (union known list) (union own list)
 list_added known ps own list a n b t g = record {
   sorted = union_ascending package_total own list n.sorted;
   apart = apart_union own list n.sorted n.apart g.none;
@@ -234,7 +235,7 @@ rest_lists known list name r [] a e b h = tt
 rest_lists known list name r (s ∷ rs) a e b h =
     (subst (λ (x : Repo). IsNamedList (union known list) x.list) (sym (same_more name list s (later_differs name r s e b.0))) (list_more known list s.list a h.0), rest_lists known list name r rs a e b.1 h.1)
 
-lists_more : (known ps list : List Card) (name : List ℕ) (repos : List Repo) → IsAscending package_cmp known → IsAscending package_cmp ps → AreTaken known ps list → plain.IsAscending repo_cmp repos → AllByRecursion (λ repo. IsNamedList known repo.list) repos → Appends (list_in (repo_of name repos)) list → AllByRecursion (λ repo. IsNamedList (union known list) repo.list) (map (with_more name list) repos)
+lists_more : (known ps list : List Card) (name : List ℕ) (repos : List Repo) → IsAscending package_cmp known → IsAscending package_cmp ps → AreTakenIn known ps list → plain.IsAscending repo_cmp repos → AllByRecursion (λ repo. IsNamedList known repo.list) repos → Appends (list_in (repo_of name repos)) list → AllByRecursion (λ repo. IsNamedList (union known list) repo.list) (map (with_more name list) repos)
 lists_more known ps list name [] a b t s h g = tt
 lists_more known ps list name (r ∷ rs) a b t s h g = by_test (bytes_eq r.name name) refl g (lists_more known ps list name rs a b t s.1 h.1)
   where
@@ -243,7 +244,7 @@ lists_more known ps list name (r ∷ rs) a b t s h g = by_test (bytes_eq r.name 
     by_test false e k more = (list_more known list r.list a h.0, more k)
 
 -- ---- all of it
-pub taken_fits : (state : StateView) (name : List ℕ) (ps list : List Card) → Valid state → IsAscending package_cmp ps → AreTaken state.known ps list → append_answer (list_of state name) list ≡ Ok tt → length (union state.known list) ≤ limit_number Known → text_length (union state.known list) ≤ limit_number Catalogue → FitsIn state name list
+pub taken_fits : (state : StateView) (name : List ℕ) (ps list : List Card) → Valid state → IsAscending package_cmp ps → AreTakenIn state.known ps list → append_answer (list_of state name) list ≡ Ok tt → length (union state.known list) ≤ limit_number Known → text_length (union state.known list) ≤ limit_number Catalogue → FitsIn state name list
 taken_fits state name ps list v b t g few texts =
     let n : length (map (with_more name list) state.repos) ≡ length state.repos = count_more name list state.repos in
     record {

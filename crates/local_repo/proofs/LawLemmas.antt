@@ -25,10 +25,14 @@ use Rattle.machine_state.specs.Limits.{limit_number}
 use Rattle.machine_state.specs.State.{IsCatalogue, IsKnown, IsNamedList, Valid, repo_cmp, repo_of}
 use Rattle.machine_state.specs.Values.{StateView}
 use Rattle.index_text.specs.Index.{ArePackages, Lists}
-use Rattle.local_repo.specs.Arrival.{Entry, Arrives, BytesArrive, IsIndex, agreed, and_then, cards_of, check_answer, compared, each_taken, entries_arrive, facts_of, fitting, index_arrives, index_bytes, index_path, known_of, list_in, list_of, of_known_or_file, or_refused, path_of, standing, taken}
-use Rattle.local_repo.specs.Fits.{AreTaken, FitsIn, Fitting, IsTaken, added, with_more}
-use Rattle.local_repo.proofs.ListLemmas.{each_of, all_map, found_alike, found_equal, found_has, found_holds, has_found}
-use Rattle.local_repo.proofs.TakenLemmas.{AreDigests, find_holds, of_bytes, of_card, standing_taken, went_on}
+use Rattle.package_intake.specs.Index.{IndexEntry, IsIndex, cards_of, index_bytes, path_of}
+use Rattle.local_repo.specs.Arrival.{Arrives, BytesArrive, check_answer, entries_arrive, fitting, index_arrives, index_path, list_in, list_of}
+use Rattle.package_intake.specs.Taking.{agreed, compared, each_taken, facts_of, known_of, of_known_or_file, standing, taken_file}
+use Rattle.package_intake.specs.Steps.{and_then, or_refused}
+use Rattle.package_intake.specs.Taking.{AreTakenIn, IsTakenIn}
+use Rattle.local_repo.specs.Fits.{FitsIn, Fitting, added, with_more}
+use Rattle.package_intake.proofs.ListLemmas.{each_of, all_map, found_alike, found_equal, found_has, found_holds, has_found}
+use Rattle.package_intake.proofs.TakenLemmas.{AreDigests, find_holds, of_bytes, of_card, standing_taken, went_on}
 use Rattle.local_repo.proofs.ArrivalLemmas.{joined_ascending, joined_good, joined_is}
 use Rattle.local_repo.proofs.AddLemmas.{fitting_fits}
 use Rattle.local_repo.proofs.FitLemmas.{later_differs, same_more}
@@ -98,48 +102,48 @@ made_by path p made known None (Some bytes) c e h = made_of path p made (digests
 abbrev sized : Bool → Result Card Refusal → Result Card Refusal
 sized b next = cond b (Err (Limit File)) next
 
-is_taken : (files : Files) (known : List Card) (path : Path) (p q : Card) → IsCatalogue known → IsPackage p → IsSaid p.said → taken files known path p ≡ Ok q → IsTaken known p q
-unfolding taken
+is_taken : (files : Files) (known : List Card) (path : Path) (p q : Card) → IsCatalogue known → IsPackage p → IsSaid p.said → taken_file files known path p ≡ Ok q → IsTakenIn known p q
+unfolding taken_file
 is_taken files known path p q c d s h = by_size (nat_lt (limit_number File) p.said.size) refl h
   where
-    by_size : (b : Bool) → nat_lt (limit_number File) p.said.size ≡ b → sized b (and_then (of_known_or_file path p (known_of known p.said.sha256) (files path)) (λ m. Ok (standing known m))) ≡ Ok q → IsTaken known p q
+    by_size : (b : Bool) → nat_lt (limit_number File) p.said.size ≡ b → sized b (and_then (of_known_or_file path p (known_of known p.said.sha256) (files path)) (λ m. Ok (standing known m))) ≡ Ok q → IsTakenIn known p q
     by_size true e g = cc
     by_size false e g =
         let on = went_on (of_known_or_file path p (known_of known p.said.sha256) (files path)) (λ m. Ok (standing known m)) q g in
         let m = made_by path p on.0 known (known_of known p.said.sha256) (files path) c refl on.1 in
         let is : standing known on.0 ≡ q = let same = on.2 in cc in
-        subst (IsTaken known p) (ap (standing known) (sym m.is) ∙ is) (standing_taken known p m.found c d s m.digests m.agrees (ltb-false (limit_number File) p.said.size e))
+        subst (IsTakenIn known p) (ap (standing known) (sym m.is) ∙ is) (standing_taken known p m.found c d s m.digests m.agrees (ltb-false (limit_number File) p.said.size e))
 
-are_taken : (known : List Card) (take : Card → Result Card Refusal) → ((p q : Card) → IsPackage p → IsSaid p.said → take p ≡ Ok q → IsTaken known p q) → (ps qs : List Card) → AllByRecursion (λ p. IsPackage p × IsSaid p.said) ps → each_taken take ps ≡ Ok qs → AreTaken known ps qs
+are_taken : (known : List Card) (take : Card → Result Card Refusal) → ((p q : Card) → IsPackage p → IsSaid p.said → take p ≡ Ok q → IsTakenIn known p q) → (ps qs : List Card) → AllByRecursion (λ p. IsPackage p × IsSaid p.said) ps → each_taken take ps ≡ Ok qs → AreTakenIn known ps qs
 are_taken known take one [] [] d h = tt
 are_taken known take one [] (q ∷ qs) d h = cc
 are_taken known take one (p ∷ ps) qs d h =
     let first = went_on (take p) (λ y. and_then (each_taken take ps) (λ ys. Ok (y ∷ ys))) qs h in
     let rest = went_on (each_taken take ps) (λ ys. Ok (first.0 ∷ ys)) qs first.2 in
     let is : first.0 ∷ rest.0 ≡ qs = let same = rest.2 in cc in
-    subst (AreTaken known (p ∷ ps)) is (one p first.0 d.0.0 d.0.1 first.1, are_taken known take one ps rest.0 d.1 rest.1)
+    subst (AreTakenIn known (p ∷ ps)) is (one p first.0 d.0.0 d.0.1 first.1, are_taken known take one ps rest.0 d.1 rest.1)
 
-entries_fit : (files : Files) (known own : List Card) (folder : Path) (entries : List Entry) (list : List Card) → IsCatalogue known → ArePackages entries → entries_arrive files known own folder entries ≡ Ok list → Fitting known own list
+entries_fit : (files : Files) (known own : List Card) (folder : Path) (entries : List IndexEntry) (list : List Card) → IsCatalogue known → ArePackages entries → entries_arrive files known own folder entries ≡ Ok list → Fitting known own list
 unfolding entries_arrive
 entries_fit files known own folder entries list c d h =
-    let first = went_on (or_refused Packages (join_answer (cards_of entries))) (λ ps. and_then (each_taken (λ p. taken files known (below_folder folder (path_of entries p)) p) ps) (λ l. fitting known own l)) list h in
-    let second = went_on (each_taken (λ p. taken files known (below_folder folder (path_of entries p)) p) first.0) (λ l. fitting known own l) list first.2 in
+    let first = went_on (or_refused Packages (join_answer (cards_of entries))) (λ ps. and_then (each_taken (λ p. taken_file files known (below_folder folder (path_of entries p)) p) ps) (λ l. fitting known own l)) list h in
+    let second = went_on (each_taken (λ p. taken_file files known (below_folder folder (path_of entries p)) p) first.0) (λ l. fitting known own l) list first.2 in
     let third = went_on (check_answer known own second.0) (λ u. Ok second.0) list second.2 in
     let is : second.0 ≡ list = let same = third.2 in cc in
     let joined_here : first.0 ≡ joined (cards_of entries) = joined_is Packages (cards_of entries) first.0 first.1 in
     let good : AllByRecursion (λ p. IsPackage p × IsSaid p.said) first.0 = each_of (λ p. IsPackage p × IsSaid p.said) first.0 (subst (λ (l : List Card). All (λ p. IsPackage p × IsSaid p.said) l) (sym joined_here) (joined_good entries d)) in
     record {
-      joined = first.0;
+      packages = first.0;
       ascending = subst (λ (l : List Card). IsAscending package_cmp l) (sym joined_here) (joined_ascending (cards_of entries));
-      taken = subst (λ (l : List Card). AreTaken known first.0 l) is (are_taken known (λ p. taken files known (below_folder folder (path_of entries p)) p) (λ p q a b g. is_taken files known (below_folder folder (path_of entries p)) p q c a b g) first.0 second.0 good second.1);
+      taken = subst (λ (l : List Card). AreTakenIn known first.0 l) is (are_taken known (λ p. taken_file files known (below_folder folder (path_of entries p)) p) (λ p q a b g. is_taken files known (below_folder folder (path_of entries p)) p q c a b g) first.0 second.0 good second.1);
       checked = ap (λ (l : List Card). check_answer known own l) (sym is) ∙ third.1;
     }
 
-pub arrives_fit : ((text : List ℕ) (entries : List Entry) → Lists text entries → ArePackages entries) → (files : Files) (state : StateView) (name : List ℕ) (folder : Path) (list : List Card) → Valid state → Arrives files state name folder (Ok list) → FitsIn state name list
+pub arrives_fit : ((text : List ℕ) (entries : List IndexEntry) → Lists text entries → ArePackages entries) → (files : Files) (state : StateView) (name : List ℕ) (folder : Path) (list : List Card) → Valid state → Arrives files state name folder (Ok list) → FitsIn state name list
 unfolding Arrives
 arrives_fit packages files state name folder list v h = by_bytes (index_bytes (index_path folder) (files (index_path folder))) h
   where
-    by_index : (bytes : List ℕ) (index : Result (List Entry) ℕ) → IsIndex bytes index → Ok list ≡ index_arrives files state name folder index → FitsIn state name list
+    by_index : (bytes : List ℕ) (index : Result (List IndexEntry) ℕ) → IsIndex bytes index → Ok list ≡ index_arrives files state name folder index → FitsIn state name list
     by_index bytes (Ok entries) l e = fitting_fits state name (list_of state name) list v refl (entries_fit files state.known (list_of state name) folder entries list v.known (packages bytes entries l) (sym e))
     by_index bytes (Err line) l e = cc
 

@@ -1,15 +1,5 @@
-pub mod ListLemmas
 pub mod FitLemmas
-pub mod DigestLemmas
-pub mod TakenLemmas
-pub mod MapLemmas
-pub mod IndexLemmas
-pub mod LogLemmas
-pub mod TextLemmas
 pub mod ArrivalLemmas
 pub mod AddLemmas
-pub mod StanzaLemmas
-pub mod EntryLemmas
 pub mod TotalLemmas
 pub mod LawLemmas
-pub mod FaultLemmas

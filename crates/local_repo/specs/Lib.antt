@@ -1,4 +1,9 @@
 pub mod Arrival
 pub mod Fits
 pub mod Answers
-pub mod Files
+pub use Rattle.package_intake.specs.Index
+pub use Rattle.package_intake.specs.Steps
+pub use Rattle.package_intake.specs.Taking
+pub use Rattle.package_intake.specs.Catalogue
+pub use Rattle.package_intake.specs.Faults
+pub use Rattle.package_intake.specs.Additions

@@ -2,13 +2,8 @@
 #![tactic(auto)]
 
 mod arrive;
-mod body;
-mod by_package;
-mod fault;
 mod fit;
-mod index;
-mod join;
-mod known;
+mod folder;
 mod laws;
 
 pub use arrive::add;

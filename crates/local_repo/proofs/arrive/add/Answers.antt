@@ -5,10 +5,14 @@ use Rattle.ap_host.specs.Changes.{GoesOn}
 use Rattle.ap_host.proofs.ChangeLemmas.{GoesOn-map, GoesOn-none}
 use Rattle.machine_state.specs.State.{IsCatalogue}
 use Rattle.machine_state.specs.Values.{StateView}
-use Rattle.local_repo.specs.Arrival.{cards_of, entries_arrive, list_in, list_of}
-use Rattle.local_repo.specs.Answers.{AddsAll, FaultGives}
+use Rattle.package_intake.specs.Index.{cards_of}
+use Rattle.local_repo.specs.Arrival.{entries_arrive, list_in, list_of}
+use Rattle.package_intake.specs.Additions.{AddsAll}
+use Rattle.package_intake.specs.Steps.{FaultGives}
 use Rattle.local_repo.specs.Fits.{FitsIn, Fitting}
-use Rattle.local_repo.proofs.AddLemmas.{listed_arrives, listed_fault, unlisted_fault, fault_comes, list_comes, fitting_fits, adds_list, adds_fails, adds_nothing, of_input}
+use Rattle.local_repo.proofs.AddLemmas.{listed_arrives, listed_fault, unlisted_fault, fault_comes, list_comes, fitting_fits, adds_list, adds_fails, adds_nothing, early_folder, files_folder, of_input}
+use Rattle.package_intake.proofs.FaultLemmas.{handed_on}
+use Rattle.local_repo.specs.Answers.{FaultOfFolder}
 use Rattle.local_repo.proofs.arrive.add.Goals as goal
 
 pub returns-in_err-date-clause-log : goal.returns-in_err-date-clause-log
@@ -73,3 +77,15 @@ returns-clause-log g c =
     let known : c.state.inside.known ≡ c.args.state.now.known = ap (λ (s : StateView). s.known) c.state.view_is in
     let log = subst₂ (λ m k. GoesOn (g.H.Host.log c.args.host.now) (g.H.Host.log c.take_entries.new.host) (AddsAll m (cards_of c.in_ok-entries.entries.items) k (Ok c.in_ok-list.list) c.args.stage.now c.take_entries.new.stage)) c.in_ok-entries.ensures.map known c.in_ok-list.ensures.log in
     GoesOn-map _ _ _ _ log (λ l a h. adds_list _ c.args.folder.now c.in_ok-entries.entries.items c.in_ok-entries.ensures.packages c.in_ok-entries.ensures.told _ c.in_ok-list.list c.in_ok-date.date _ _ l a h)
+
+pub returns-in_err-entries-clause-mismatch : goal.returns-in_err-entries-clause-mismatch
+returns-in_err-entries-clause-mismatch g c =
+    let e = err_from_is_err_and c.from_residual-in_err-entries.result c.from_residual-in_err-entries.ensures.1 in
+    handed_on c.from_residual-in_err-entries.result (FaultOfFolder (g.I.Inbox.map c.args.inbox.now) c.args.folder.now) e.0 c.in_err-entries.field-0.0 e.1 e.2
+    (early_folder (g.I.Inbox.map c.args.inbox.now) c.args.folder.now c.in_err-entries.field-0.0 c.in_err-entries.ensures.early)
+
+pub returns-in_err-list-clause-mismatch : goal.returns-in_err-list-clause-mismatch
+returns-in_err-list-clause-mismatch g c =
+    let e = err_from_is_err_and c.from_residual-in_err-list.result c.from_residual-in_err-list.ensures.1 in
+    handed_on c.from_residual-in_err-list.result (FaultOfFolder (g.I.Inbox.map c.args.inbox.now) c.args.folder.now) e.0 c.in_err-list.field-0.0 e.1 e.2
+    (files_folder (g.I.Inbox.map c.args.inbox.now) c.args.folder.now c.in_ok-entries.entries.items c.in_err-list.field-0.0 c.in_ok-entries.ensures.packages c.in_ok-entries.ensures.told c.in_err-list.ensures.mismatch)

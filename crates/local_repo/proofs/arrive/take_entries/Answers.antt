@@ -1,4 +1,4 @@
-use Rattle.std.proofs.Common.{◌≡◌, List, Ok, map, refl, sym, ap, ◌∙◌, subst, All, Result}
+use Rattle.std.proofs.Common.{◌≡◌, List, [], Ok, map, unwrap_or, refl, sym, ap, ◌∙◌, subst, All, Result}
 use Rattle.std.proofs.lemmas.Result.{err_from_is_err_and}
 use Rattle.std.specs.Option.{option_copied}
 use Rattle.std.specs.Rc.{rc_value}
@@ -11,14 +11,20 @@ use Rattle.package_core.specs.Order.{package_cmp}
 use Rattle.package_list.specs.Sorted.{IsAscending}
 use Rattle.package_list.specs.Answers.{join_answer}
 use Rattle.machine_state.specs.declared.limit.Limit.TheVariants.{Packages}
-use Rattle.local_repo.specs.Arrival.{Entry, cards_of, entries_arrive, list_in, or_refused}
-use Rattle.local_repo.specs.Answers.{FaultGives}
+use Rattle.package_intake.specs.Index.{IndexEntry, cards_of, path_of}
+use Rattle.local_repo.specs.Arrival.{entries_arrive, list_in}
+use Rattle.package_intake.specs.Steps.{or_refused}
+use Rattle.package_intake.specs.Steps.{FaultGives}
 use Rattle.local_repo.proofs.ArrivalLemmas.{There, joined_is, joined_among, joined_ascending, joined_good, joined_paths, paths_there, paths_short, same_steps, join_fault, take_fault, check_fault, all_ok, told_err}
-use Rattle.local_repo.proofs.LogLemmas.{all_nothing, all_fails, all_among}
+use Rattle.package_intake.proofs.LogLemmas.{all_nothing, all_fails, all_among}
+use Rattle.ap_host.specs.Disk.{Path}
+use Rattle.package_intake.specs.Faults.{FaultOfFiles}
+use Rattle.package_intake.specs.Inside.{path_at}
+use Rattle.package_intake.proofs.FaultLemmas.{files_among, handed_on, other_files}
 use Rattle.local_repo.proofs.arrive.take_entries.Goals as goal
 
 -- what was joined is among what the index says
-members : (entries : List Entry) (packages list : List Card) → packages ≡ cards_of entries → or_refused Packages (join_answer packages) ≡ Ok list → (p : Card) → Contains list p → Contains (cards_of entries) p
+members : (entries : List IndexEntry) (packages list : List Card) → packages ≡ cards_of entries → or_refused Packages (join_answer packages) ≡ Ok list → (p : Card) → Contains list p → Contains (cards_of entries) p
 members entries packages list cards joins p there =
     joined_among entries p (subst (λ (ps : List Card). Contains ps p) (joined_is Packages (cards_of entries) list (ap (λ xs. or_refused Packages (join_answer xs)) (sym cards) ∙ joins)) there)
 
@@ -114,8 +120,34 @@ returns-clause-fits g c catalogue packages =
     let joins : or_refused Packages (join_answer (cards_of entries)) ≡ Ok ps = ap (λ xs. or_refused Packages (join_answer xs)) (sym cards) ∙ c.in_ok-joined.ensures.answer in
     let is = joined_is Packages (cards_of entries) ps joins in
     record {
-      joined = ps;
+      packages = ps;
       ascending = subst (IsAscending package_cmp) (sym is) (joined_ascending (cards_of entries));
       taken = c.in_ok-list.ensures.taken catalogue (subst (All (λ (p : Card). IsPackage p × IsSaid p.said)) (sym is) (joined_good entries packages));
       checked = c.in_ok-check.ensures.answer;
     }
+
+pub returns-in_err-joined-clause-mismatch : goal.returns-in_err-joined-clause-mismatch
+returns-in_err-joined-clause-mismatch g c =
+    let e = err_from_is_err_and c.from_residual-in_err-joined.result c.from_residual-in_err-joined.ensures.1 in
+    let entries = c.args.entries.items in
+    handed_on c.from_residual-in_err-joined.result (FaultOfFiles c.args.folder.now (path_of entries) (cards_of entries)) e.0 c.in_err-joined.field-0.0 e.1 e.2
+    (other_files c.args.folder.now (path_of entries) (cards_of entries) c.in_err-joined.field-0.0 c.in_err-joined.ensures.other)
+
+pub returns-in_err-list-clause-mismatch : goal.returns-in_err-list-clause-mismatch
+returns-in_err-list-clause-mismatch g c =
+    let e = err_from_is_err_and c.from_residual-in_err-list.result c.from_residual-in_err-list.ensures.1 in
+    let entries = c.args.entries.items in
+    let folder = c.args.folder.now in
+    let fault = c.in_err-list.field-0.0 in
+    let paths = c.in_ok-packages.paths in
+    let within = members entries (map rc_value c.deref.result.now) c.in_ok-joined.joined (ap (map rc_value) c.deref.ensures.value ∙ c.in_ok-packages.ensures.packages) c.in_ok-joined.ensures.answer in
+    let same : path_at paths ≡ path_of entries = λ i p. unwrap_or (c.in_ok-packages.ensures.paths p i) [] in
+    handed_on c.from_residual-in_err-list.result (FaultOfFiles folder (path_of entries) (cards_of entries)) e.0 fault e.1 e.2
+    (files_among folder (path_of entries) c.in_ok-joined.joined (cards_of entries) fault within (subst (λ (path : Card → Path). FaultOfFiles folder path c.in_ok-joined.joined fault) same c.in_err-list.ensures.mismatch))
+
+pub returns-in_err-check-clause-mismatch : goal.returns-in_err-check-clause-mismatch
+returns-in_err-check-clause-mismatch g c =
+    let e = err_from_is_err_and c.from_residual-in_err-check.result c.from_residual-in_err-check.ensures.1 in
+    let entries = c.args.entries.items in
+    handed_on c.from_residual-in_err-check.result (FaultOfFiles c.args.folder.now (path_of entries) (cards_of entries)) e.0 c.in_err-check.field-0.0 e.1 e.2
+    (other_files c.args.folder.now (path_of entries) (cards_of entries) c.in_err-check.field-0.0 c.in_err-check.ensures.other)

@@ -1,4 +1,4 @@
-use Rattle.local_repo.proofs.EntryLemmas.{listed_packages}
+use Rattle.package_intake.proofs.EntryLemmas.{listed_packages}
 use Rattle.local_repo.proofs.LawLemmas.{added_same, arrives_fit}
 use Rattle.local_repo.proofs.TotalLemmas.{some_arrives}
 use Rattle.local_repo.proofs.laws.arrivals_fit.Goals as goal

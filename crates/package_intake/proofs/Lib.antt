@@ -1,0 +1,11 @@
+pub mod ListLemmas
+pub mod DigestLemmas
+pub mod TakenLemmas
+pub mod MapLemmas
+pub mod IndexLemmas
+pub mod LogLemmas
+pub mod TextLemmas
+pub mod StanzaLemmas
+pub mod EntryLemmas
+pub mod FaultLemmas
+pub mod IndexTotal

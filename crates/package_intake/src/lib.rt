@@ -1,0 +1,17 @@
+//! What is taken in from the inbox: an index, the packages that it describes, and their files into the pool.
+#![tactic(auto)]
+
+mod body;
+mod by_package;
+mod catalogue;
+mod fault;
+mod index;
+mod join;
+mod known;
+mod taking;
+
+pub use catalogue::check_known;
+pub use fault::of_list;
+pub use index::{path_below, read_entries, read_index};
+pub use join::{Paths, join as join_packages, split};
+pub use taking::take_all;
