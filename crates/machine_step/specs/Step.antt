@@ -1,27 +1,25 @@
 -- One step of the machine: what a command comes to in a state.
-use Rattle.std.specs.Prelude.{◌≡◌, ℕ, ℤ, ◌-◌, false, List, [], Option, Some, None, nat_le, length, codes, unwrap_or, if◌then◌else◌}
+use Rattle.std.specs.Prelude.{◌≡◌, ℕ, ℤ, List, [], ◌∷◌, Option}
+use Rattle.std.specs.List.{filter}
 use Rattle.ap_host.specs.Disk.{Files}
 use Rattle.package_core.specs.Card.{Card}
-use Rattle.package_list.specs.Lists.{union}
-use Rattle.command_words.specs.Plain.{PlainCommand, repo_create, repo_add, repo_show, package_search, package_show}
-use Rattle.machine_state.specs.declared.limit.Limit.TheVariants.{Repos}
-use Rattle.machine_state.specs.declared.repo.Repo.{Repo}
+use Rattle.run_model.specs.Run.{Outcome}
+use Rattle.command_words.specs.Plain.{PlainCommand, OtherCommand, of_repo, of_other, package_search, package_show}
 use Rattle.machine_state.specs.declared.refusal.Refusal.{Refusal}
-use Rattle.machine_state.specs.declared.refusal.Refusal.TheVariants.{NotBuilt, Limit}
 use Rattle.machine_state.specs.declared.arrived.Arrived.{Arrived}
 use Rattle.machine_state.specs.declared.arrived.Arrived.TheVariants as arrivals
-use Rattle.machine_state.specs.Ascending.{put}
-use Rattle.machine_state.specs.Limits.{limit_number}
-use Rattle.machine_state.specs.State.{repo_cmp, repo_of}
 use Rattle.machine_state.specs.Values.{StateView}
-use Rattle.local_repo.specs.Arrival.{list_of}
+use Rattle.step_model.specs.declared.reading.Reading.{Reading}
+use Rattle.step_model.specs.declared.reading.Reading.TheVariants as readings
+use Rattle.step_model.specs.Case.{Case, changes, unbuilt, bad_queries, conditions_of}
+use Rattle.step_model.specs.Refuses.{reading}
+use Rattle.step_model.specs.Steps as steps
 use Rattle.local_repo.specs.Answers.{IsArrival}
-use Rattle.local_repo.specs.Fits.{added}
+use Rattle.local_repo.specs.Cases.{repo_case}
 use Rattle.reply_text.specs.Refusals.{refusal_line}
 use Rattle.reply_text.specs.Replies as replies
 use Rattle.query_grammar.specs.Said.{query_of}
-use Rattle.machine_step.specs.Queries.{found_by}
-use Rattle.machine_step.specs.Early.{Refuses, folder_read}
+use Rattle.step_model.specs.Queries.{found_by}
 
 -- What a call is given: the files of its inbox, where the inbox tells them, and the moment, in seconds since 1970.
 pub record Given : Type 0 where
@@ -31,70 +29,48 @@ pub record Given : Type 0 where
 abbrev pub giving : Option Files → ℤ → Given
 giving inbox now = record { inbox = inbox; now = now }
 
--- a repository as it is made: no comment, no distribution, the component `main`, no package
-abbrev pub new_repo : List ℕ → Repo
-new_repo name = record { name = name; comment = []; distribution = None; component = codes "main"; list = [] }
+-- a query is asked of the known packages, and what is found is said so
+abbrev pub asking : StateView → List ℕ → (List Card → List ℕ) → Case
+asking state query say =
+    record {
+      early = bad_queries (query ∷ []);
+      conditions = conditions_of (query ∷ []);
+      late = None;
+      reads = readings.Nothing;
+      comes = λ arrived. changes (say (found_by state.known (query_of query))) state;
+    }
 
--- what a command comes to: the reply, the refusal if it is refused, and the state after it
-pub record Came : Type 0 where
-  pub reply : List ℕ
-  pub refusal : Option Refusal
-  pub state : StateView
+-- the commands on packages
+unfoldable pub other_case : StateView → OtherCommand → Case
+other_case state (package_search query) = asking state query replies.package_search
+other_case state (package_show query) = asking state query replies.package_show
+other_case state command = unbuilt
 
--- a refused command says why, and keeps the state
-abbrev pub refused : StateView → Refusal → Came
-refused state refusal = record { reply = refusal_line refusal; refusal = Some refusal; state = state }
+-- what a command is in a state at this moment: that of its family
+unfoldable pub case_of : ℤ → StateView → PlainCommand → Case
+case_of now state (of_repo command) = repo_case state command
+case_of now state (of_other command) = other_case state command
+case_of now state command = unbuilt
 
--- a command that asks keeps the state
-abbrev pub told : StateView → List ℕ → Came
-told state reply = record { reply = reply; refusal = None; state = state }
+-- What may arrive where this is read: from an inbox that tells its files what they hold, and from another what fits. The text is the one that
+-- the pattern builder of the call refused for its size.
+abbrev pub MayArrive : Given → Option (List ℕ) → StateView → Reading → Arrived → Type 0
+MayArrive given large state readings.Nothing arrived = arrived ≡ arrivals.Nothing
+MayArrive given large state (readings.Folder name folder) arrived = IsArrival given.inbox state name folder arrived
+MayArrive given large state (readings.Mirror name) arrived = ⊥
 
--- a repository more, where there is room for it
-abbrev pub created : StateView → List ℕ → Came
-created state name =
-    if nat_le (limit_number Repos) (length state.repos) then refused state (Limit Repos)
-    else record { reply = replies.repo_created name; refusal = None; state = record state { repos = put repo_cmp (new_repo name) state.repos } }
+abbrev pub refused : StateView → Refusal → Outcome StateView Refusal
+refused = steps.refused refusal_line
 
--- the reply where a list has been joined to this one
-abbrev pub added_reply : List ℕ → List Card → List Card → List ℕ
-added_reply name own all = replies.repo_added name (length all - length own) (length all)
+-- the command comes to this with what arrived
+abbrev pub StepWith : ℤ → Option (List ℕ) → StateView → PlainCommand → Arrived → Outcome StateView Refusal → Type 0
+StepWith now large state command arrived outcome = steps.StepWith refusal_line large state (case_of now state command) arrived outcome
 
--- what arrived is added to the repository
-abbrev pub taken_in : StateView → List ℕ → Arrived → Came
-taken_in state name (arrivals.List list date) =
-    record { reply = added_reply name (list_of state name) (union (list_of state name) list); refusal = None; state = added state name list }
-taken_in state name (arrivals.Refused refusal) = refused state refusal
-taken_in state name arrivals.Nothing = refused state NotBuilt
-
--- the repository of that name
-abbrev pub repo_named : StateView → List ℕ → Repo
-repo_named state name = unwrap_or (repo_of name state.repos) (new_repo name)
-
--- what a command comes to that isn't refused before anything is read
-unfoldable pub done : StateView → PlainCommand → Arrived → Came
-done state (repo_create comment distribution component name) arrived = created state name
-done state (repo_add name folder) arrived = taken_in state name arrived
-done state (repo_show packages name) arrived = told state (replies.repo_show (repo_named state name) (unwrap_or packages false))
-done state (package_search query) arrived = told state (replies.package_search (found_by state.known (query_of query)))
-done state (package_show query) arrived = told state (replies.package_show (found_by state.known (query_of query)))
-done state command arrived = refused state NotBuilt
-
-abbrev pub came_to : StateView → PlainCommand → Arrived → Option Refusal → Came
-came_to state command arrived (Some refusal) = refused state refusal
-came_to state command arrived None = done state command arrived
-
--- what may arrive for a command from an inbox: of one that tells its files what they hold, and of another what fits
-abbrev pub MayArriveFor : Option Files → StateView → Option (List ℕ × List ℕ) → Arrived → Type 0
-MayArriveFor files state None arrived = arrived ≡ arrivals.Nothing
-MayArriveFor files state (Some (name, folder)) arrived = IsArrival files state name folder arrived
-
-abbrev pub MayArrive : Given → StateView → PlainCommand → Arrived → Type 0
-MayArrive given state command arrived = MayArriveFor given.inbox state (folder_read state command) arrived
-
--- the command comes to this with what arrived, in a call whose pattern builder refused this text for its size
-abbrev pub StepWith : Option (List ℕ) → StateView → PlainCommand → Arrived → Came → Type 0
-StepWith large state command arrived came = (refusal : Option Refusal) × Refuses large state command refusal × (came ≡ came_to state command arrived refusal)
+-- what is read for the command, where its patterns are built
+abbrev pub read_for : ℤ → StateView → PlainCommand → Reading
+read_for now state command = reading (case_of now state command)
 
 -- The command may come to this in this state, in a call that is given this.
-abbrev pub Step : Given → Option (List ℕ) → StateView → PlainCommand → Came → Type 0
-Step given large state command came = (arrived : Arrived) × MayArrive given state command arrived × StepWith large state command arrived came
+abbrev pub Step : Given → Option (List ℕ) → StateView → PlainCommand → Outcome StateView Refusal → Type 0
+Step given large state command outcome =
+    (arrived : Arrived) × MayArrive given large state (read_for given.now state command) arrived × StepWith given.now large state command arrived outcome

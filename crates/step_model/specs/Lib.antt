@@ -1,0 +1,7 @@
+pub mod Case
+pub mod Names
+pub mod Queries
+pub mod Refuses
+pub mod Steps
+pub mod Answers
+pub mod Lawful
