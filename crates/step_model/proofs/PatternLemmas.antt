@@ -5,7 +5,7 @@ use Rattle.std.proofs.lemmas.List.Elements.{All-nil, All-append}
 use Rattle.query_tree.specs.declared.query.Query.{Query}
 use Rattle.query_tree.specs.Tree.{plain, plains}
 use Rattle.query_eval.specs.declared.fault.EvalFault.TheVariants as eval
-use Rattle.query_eval.specs.Build.{Rose}
+use Rattle.ap_host.specs.Calls.{Rose}
 use Rattle.query_eval.specs.Conditions.{IsPattern, IsRefused, patterns_of}
 use Rattle.machine_state.specs.declared.change.ChangeFault.{ChangeFault}
 use Rattle.machine_state.specs.declared.change.ChangeFault.TheVariants as faults

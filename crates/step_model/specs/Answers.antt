@@ -1,7 +1,7 @@
 -- What the calls of a step answer.
 use Rattle.std.specs.Prelude.{◌≡◌, ◌≢◌, ◌⊎◌, ℕ, List, Option, Some, None, Result, Ok, Err, unwrap_or}
 use Rattle.run_model.specs.Run.{Outcome}
-use Rattle.query_eval.specs.Build.{Rose}
+use Rattle.ap_host.specs.Calls.{Rose}
 use Rattle.machine_state.specs.declared.change.Change.{Change}
 use Rattle.machine_state.specs.declared.change.ChangeFault.{ChangeFault}
 use Rattle.machine_state.specs.declared.change.ChangeFault.TheVariants as faults
