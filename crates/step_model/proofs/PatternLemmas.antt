@@ -1,5 +1,5 @@
 -- The conditions of queries, and how building one after another adds up.
-use Rattle.std.proofs.Common.{◌≡◌, ℕ, zero, suc, ◌+◌, ◌<◌, ◌≤◌, List, [], ◌∷◌, ◌++◌, length, All, Option, Some, None, Ok, inl, inr, refl, sym, ap, subst, ◌∙◌, arith, append_assoc, append-nil, map, drop, get_or, add-one}
+use Rattle.std.proofs.Common.{◌≡◌, ℕ, zero, suc, ◌+◌, ◌<◌, ◌≤◌, List, [], ◌∷◌, ◌++◌, length, All, Option, Some, None, Ok, refl, sym, ap, subst, ◌∙◌, arith, append_assoc, append-nil, map, drop, get_or, add-one}
 use Rattle.std.proofs.Math.Seq.{drop-cons}
 use Rattle.std.proofs.lemmas.List.Elements.{All-nil, All-append}
 use Rattle.query_tree.specs.declared.query.Query.{Query}
@@ -89,8 +89,7 @@ refusal_within large all front middle back refusal split read h = record {
 }
 
 rose_from : (old mid new : ℕ) → old ≤ mid → Rose mid new → Rose old new
-rose_from old mid new falls (inl rose) = inl (omega arith)
-rose_from old mid new falls (inr last) = inr last
+rose_from old mid new falls rose = omega (arith, rose, falls)
 
 pub told_from : (old mid new : ℕ) (refused large : Option (List ℕ)) → old ≤ mid → IsTold mid new refused large → IsTold old new refused large
 told_from old mid new refused None falls h = tt
