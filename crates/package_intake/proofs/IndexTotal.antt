@@ -13,7 +13,6 @@ use Rattle.depends_field.specs.declared.phase.Kind.TheVariants.{Depends, Provide
 use Rattle.depends_field.specs.Field.{groups_in}
 use Rattle.depends_field.proofs.Said.{groups_from_said, said_from_groups}
 use Rattle.package_core.specs.declared.fault.PackageFault.{PackageFault}
-use Rattle.package_core.specs.Card.{Card}
 use Rattle.package_core.specs.Faults.{fault_of}
 use Rattle.index_text.specs.Index.{AreEntries, HasRelations, IsEntry, IsFirstOther, IsMadeOf, IsReadable, entry_of}
 use Rattle.package_intake.specs.Index.{IndexEntry, IsIndex}

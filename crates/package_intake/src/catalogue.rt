@@ -47,7 +47,8 @@ fn known_with(
     }
 }
 
-/// Whether the list can be known besides what is known.
+/// Whether the list can be known besides what is known: together they are at most 400,000 packages, else `Limit(Known)`, and their texts
+/// have at most 1,073,741,824 bytes, else `Limit(Catalogue)`.
 pub fn check_known(
     alloc: Global,
     known: &PackageList,

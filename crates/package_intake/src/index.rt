@@ -88,7 +88,10 @@ fn ends_early(alloc: Global, path: &SafePath, said: u64, found: u64) -> UpdateFa
     }
 }
 
-/// The index at this path, whole, where it is there and not too long. It is read only then.
+/// The bytes of the index at this path of the inbox, whole, where it is there and has at most 134,217,728 bytes. It is read only then.
+///
+/// Else it is refused: `InputAbsent`, or `Limit(Index)`, or `InputMismatch` of the size where a read gives nothing before the length in
+/// bytes that was told: that length, and the shorter one that was reached. `InboxFault` comes only where the inbox failed.
 pub fn read_index<I: Inbox>(
     alloc: Global,
     inbox: &mut I,
@@ -113,7 +116,10 @@ pub fn read_index<I: Inbox>(
     Ok(bytes)
 }
 
-/// The packages of an index, which stands at this path, and the paths of their files below its folder.
+/// The packages that these bytes of an index describe, in its order, and the paths of their files below its folder, each of at most 700
+/// bytes. The index stands at this path, which is named where it can't be read: `InputMalformed` with the first line, counted from 1,
+/// that can't stand there (Debian Policy 5.1), or else with the first line of the first stanza that isn't one of a binary package with
+/// readable relations (Debian Policy 5.3, 7.1, 7.5).
 pub fn read_entries(
     alloc: Global,
     path: &SafePath,

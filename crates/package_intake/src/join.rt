@@ -36,7 +36,8 @@ fn note_path(paths: &mut Paths, one: ByPackage, path: SafePath) -> Result<(), Al
     Ok(())
 }
 
-/// The packages of an index in the order of the index, to be shared, and the paths of their files.
+/// The packages of an index in the order of the index, to be shared, and the paths of their files: of equal ones that of the first. Of
+/// several indexes the entries are those of one after the other. Fails only for want of memory.
 pub fn split(
     alloc: Global,
     entries: Vec<(Package, SafePath)>,
@@ -54,7 +55,9 @@ pub fn split(
     Ok((packages, paths))
 }
 
-/// The packages of an index, joined in its order.
+/// The packages of an index, joined in its order; of equal ones the first stands. The first that can't join those before it decides the
+/// refusal: `Conflict` where one of those has its name, version and architecture and none is its equal, and `Limit(Packages)` where it
+/// would be the 200,001st. It takes n log n comparisons.
 pub fn join(alloc: Global, packages: &[Rc<SharedPackage>]) -> Result<PackageList, UpdateFault>
     ensures answer { Gives result (or_refused Packages (join_answer (map rc_value packages.now))) }
     ensures fault { IfErr result IsOwnFault }

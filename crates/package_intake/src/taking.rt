@@ -89,7 +89,16 @@ fn take_next<H: Host, I: Inbox>(
     )
 }
 
-/// Takes in the files of the packages of an index, one after the other.
+/// Takes in the files of the packages of an index, one after the other in the order of packages, each at its path below the folder. What
+/// comes of them are the packages with the four facts of their files, whose bodies then stand in the pool. No barrier is made.
+///
+/// A stated size has at most 268,435,456 bytes, else `Limit(File)`. Where a known package's file has the SHA-256, what is known of the
+/// first such has to agree with what is stated, and nothing is read. Else the file is there, else `InputAbsent`. What is stated of it is
+/// so, else `InputMismatch` with the first of size in bytes, SHA-256, SHA-1 and MD5 that differs. Where an equal package is known, that
+/// one stands. The first package that is refused decides.
+///
+/// Pool files that were taken in before a refusal stay. `HostFault` and `InboxFault` come only where the host or the inbox failed. It is
+/// meant for known packages that are a catalogue, and for paths of at most 1,000 bytes below the folder.
 pub fn take_all<H: Host, I: Inbox>(
     alloc: Global,
     host: &mut H,
