@@ -1,5 +1,5 @@
 -- What the commands of repositories come to, by how it goes.
-use Rattle.std.proofs.Common.{◌≡◌, ℕ, ◌<◌, ◌≤◌, List, [], length, insert, Option, Some, None, Bool, true, false, unwrap_or, rules, IsTrue, inl, inr, sym, subst, refl, ap, ◌∙◌, arith}
+use Rattle.std.proofs.Common.{◌≡◌, ℕ, ◌<◌, ◌≤◌, List, length, insert, Option, Some, None, Bool, true, false, unwrap_or, rules, IsTrue, inr, sym, subst, refl, ap, ◌∙◌, arith}
 use Rattle.std.specs.Option.{is_some}
 use Rattle.std.specs.Bool.{nat_le, if◌then◌else◌}
 use Rattle.std.proofs.lemmas.List.Edits.{length-insert}
@@ -23,9 +23,9 @@ use Rattle.step_model.specs.declared.reading.Reading.{Reading}
 use Rattle.step_model.specs.declared.reading.Reading.TheVariants as readings
 use Rattle.step_model.specs.Case.{Case, Came, changes, refuses, or_else, unbuilt}
 use Rattle.step_model.specs.Names.{bad_name, bad_folder}
-use Rattle.step_model.specs.Refuses.{Refuses, reading}
+use Rattle.step_model.specs.Refuses.{reading}
 use Rattle.step_model.specs.Answers.{came, ComesTo, IsFirst, IsNew, IsRefusedFor, IsWanted}
-use Rattle.step_model.proofs.RefusalLemmas.{passes, refuses_first, reads_on}
+use Rattle.step_model.proofs.RefusalLemmas.{passes, reads_on}
 use Rattle.local_repo.specs.Answers.{IsArrival}
 use Rattle.local_repo.specs.Cases.{repo_case, new_repo, created, shown, taken, taken_in, unknown, MayArrive}
 

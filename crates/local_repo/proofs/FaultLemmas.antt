@@ -1,5 +1,5 @@
 -- The faults of an arrival.
-use Rattle.std.proofs.Common.{◌≡◌, ◌<◌, ℕ, List, [], None, refl, sym, subst, arith}
+use Rattle.std.proofs.Common.{◌<◌, ℕ, List, [], None, refl, sym, subst, arith}
 use Rattle.std.specs.Fmt.{decimal}
 use Rattle.ap_host.specs.Disk.{Path}
 use Rattle.digest_set.specs.declared.facts.Digests.{Digests}

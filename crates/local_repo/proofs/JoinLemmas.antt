@@ -1,5 +1,5 @@
 -- Lists that are joined, and repositories with more.
-use Rattle.std.proofs.Common.{◌≡◌, ◌≢◌, ℕ, zero, suc, ◌<◌, ◌≤◌, ◌-◌, List, [], ◌∷◌, length, map, get_or, Option, Some, None, Bool, true, false, ◌||◌, All, IsTrue, subst, refl, sym, ap, ◌∙◌, arith, Ordering, Less, Equal, Greater}
+use Rattle.std.proofs.Common.{◌≡◌, ◌≢◌, ℕ, zero, suc, ◌<◌, ◌≤◌, ◌-◌, List, [], ◌∷◌, length, map, get_or, Option, Some, Bool, true, false, ◌||◌, All, IsTrue, subst, refl, sym, ap, ◌∙◌, arith, Ordering, Less, Equal, Greater}
 use Rattle.std.specs.Ordering.{is_eq}
 use Rattle.std.proofs.lemmas.List.{get_or-map, length-map}
 use Rattle.std.specs.Str.{bytes_eq}
@@ -18,7 +18,7 @@ use Rattle.local_repo.specs.Arrival.{list_in, list_of}
 use Rattle.local_repo.specs.Fits.{FitsIn, with_more, added}
 use Rattle.reply_text.specs.Replies as replies
 use Rattle.machine_state.specs.declared.arrived.Arrived.TheVariants as arrivals
-use Rattle.step_model.specs.Case.{Came, changes}
+use Rattle.step_model.specs.Case.{changes}
 use Rattle.local_repo.specs.Cases.{added_reply, taken_in}
 
 module _ {X : Type 0} {R : X → X → Ordering} (o : IsTotalOrder R) where

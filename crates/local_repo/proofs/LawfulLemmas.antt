@@ -1,5 +1,5 @@
 -- Laws of the cases of repositories.
-use Rattle.std.proofs.Common.{◌≡◌, ◌≢◌, ℕ, zero, suc, ◌<◌, ◌≤◌, List, [], ◌∷◌, ◌++◌, length, ◌⊎◌, Option, Some, None, Bool, true, false, All, Result, Ok, Err, subst, refl, sym, ap, arith, rules, inl, inr, unwrap_or, Ordering, Less, Equal, Greater}
+use Rattle.std.proofs.Common.{◌≡◌, ◌≢◌, ℕ, zero, suc, ◌<◌, ◌≤◌, List, [], ◌∷◌, ◌++◌, length, ◌⊎◌, Option, Some, None, Bool, true, false, All, Ok, refl, ap, arith, rules, inl, inr, unwrap_or, Ordering, Less, Equal, Greater}
 use Rattle.std.specs.List.{Contains}
 use Rattle.std.specs.Option.{IfSome, is_some}
 use Rattle.std.specs.Bool.{nat_le, if◌then◌else◌}
@@ -26,13 +26,13 @@ use Rattle.machine_state.proofs.AscendingLemmas.{put_ascending}
 use Rattle.machine_state.proofs.RepoLemmas.{repo_total}
 use Rattle.reply_text.specs.Words.{line}
 use Rattle.reply_text.specs.Replies as replies
-use Rattle.step_model.specs.Case.{Came, Case, changes, refuses, or_else, unbuilt, plain_case}
+use Rattle.step_model.specs.Case.{Came, changes, refuses, or_else, plain_case}
 use Rattle.step_model.specs.Names.{bad_name, bad_folder, is_folder}
-use Rattle.step_model.specs.Lawful.{list_in, IfChanges, IfRefuses, IsFrom, IsLawful, IsOwn, LawOf}
+use Rattle.step_model.specs.Lawful.{IfChanges, IfRefuses, IsFrom, IsLawful, IsOwn, LawOf}
 use Rattle.step_model.proofs.StepLemmas.{from_known}
 use Rattle.local_repo.specs.Arrival.{Arrives}
 use Rattle.local_repo.specs.Answers.{IsArrival}
-use Rattle.local_repo.specs.Fits.{FitsIn, added}
+use Rattle.local_repo.specs.Fits.{FitsIn}
 use Rattle.local_repo.specs.Cases.{repo_case, new_repo, created, shown, taken, taken_in, unknown, MayArrive}
 
 -- ---- every reply is some bytes

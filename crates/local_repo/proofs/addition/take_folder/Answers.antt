@@ -1,4 +1,4 @@
-use Rattle.std.proofs.Common.{ap, sym, ◌∙◌, List, ℕ, IsTrue, subst, None, inr, refl}
+use Rattle.std.proofs.Common.{ap, sym, ◌∙◌, List, ℕ, IsTrue, subst, None, inr}
 use Rattle.std.specs.Option.{is_some}
 use Rattle.std.proofs.lemmas.Result.{IfOk-weaker}
 use Rattle.command_table.specs.Plain.{repo_add}

@@ -1,9 +1,9 @@
-use Rattle.std.proofs.Common.{ap, subst, sym, None}
+use Rattle.std.proofs.Common.{ap, subst, None}
 use Rattle.command_table.specs.Plain.{plain, repo_add}
 use Rattle.step_model.specs.Case.{Case}
 use Rattle.step_model.specs.Refuses.{reading}
 use Rattle.step_model.proofs.FaultLemmas.{ok_along, fault_along}
-use Rattle.local_repo.specs.Cases.{repo_case, MayArrive}
+use Rattle.local_repo.specs.Cases.{MayArrive}
 use Rattle.local_repo.proofs.CaseLemmas.{case_along, is_add}
 use Rattle.local_repo.proofs.addition.taken.Goals as goal
 

@@ -1,13 +1,11 @@
 use Rattle.std.proofs.Common.{arith, ap, ◌∙◌, sym, subst, length, None}
 use Rattle.std.proofs.lemmas.Result.{IfOk-weaker}
-use Rattle.command_table.specs.Plain.{repo_create}
 use Rattle.machine_state.specs.Values.{StateView}
 use Rattle.machine_state.specs.declared.limit.Limit.TheVariants as limits
 use Rattle.machine_state.specs.declared.refusal.Refusal.TheVariants.{Limit}
 use Rattle.step_model.specs.Answers.{came, ComesTo, IsRefusedFor}
 use Rattle.step_model.specs.Case.{Case}
 use Rattle.step_model.proofs.FaultLemmas.{at_exit, fault_first}
-use Rattle.local_repo.specs.Cases.{repo_case}
 use Rattle.local_repo.proofs.CaseLemmas.{bare, created_comes, created_full_up, created_new}
 use Rattle.local_repo.proofs.creation.create_with.Goals as goal
 

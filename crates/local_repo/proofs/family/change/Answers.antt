@@ -1,11 +1,11 @@
-use Rattle.std.proofs.Common.{ap, subst, sym, refl, None, inl, Option, List, ℕ}
-use Rattle.command_table.specs.Plain.{plain, repo_create, repo_add, repo_list, repo_show}
+use Rattle.std.proofs.Common.{ap, subst, None, inl}
+use Rattle.command_table.specs.Plain.{plain, repo_list}
 use Rattle.machine_state.specs.declared.refusal.Refusal.TheVariants.{NotBuilt}
 use Rattle.step_model.specs.Case.{Case}
 use Rattle.step_model.specs.Refuses.{reading}
 use Rattle.step_model.proofs.RefusalLemmas.{refuses_first}
 use Rattle.step_model.proofs.FaultLemmas.{err_map, fault_memory, fault_along, fault_told, ok_along, ok_told}
-use Rattle.local_repo.specs.Cases.{repo_case, MayArrive}
+use Rattle.local_repo.specs.Cases.{MayArrive}
 use Rattle.local_repo.proofs.CaseLemmas.{case_along, other_early}
 use Rattle.local_repo.proofs.family.change.Goals as goal
 
