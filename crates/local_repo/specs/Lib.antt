@@ -1,6 +1,7 @@
 pub mod Arrival
 pub mod Fits
 pub mod Answers
+pub mod Cases
 pub use Rattle.package_intake.specs.Index
 pub use Rattle.package_intake.specs.Steps
 pub use Rattle.package_intake.specs.Taking

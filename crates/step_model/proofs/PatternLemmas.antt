@@ -1,5 +1,5 @@
 -- The conditions of queries, and how building one after another adds up.
-use Rattle.std.proofs.Common.{◌≡◌, ℕ, zero, suc, ◌+◌, ◌<◌, ◌≤◌, List, [], ◌∷◌, ◌++◌, length, All, Option, Some, None, Ok, refl, sym, ap, subst, ◌∙◌, arith, append_assoc, append-nil, map, drop, get_or, add-one}
+use Rattle.std.proofs.Common.{◌≡◌, ℕ, zero, suc, ◌+◌, ◌<◌, ◌≤◌, List, [], ◌∷◌, ◌++◌, length, All, Option, Some, None, Ok, refl, sym, ap, subst, ◌∙◌, arith, append_assoc, map, drop, get_or, add-one}
 use Rattle.std.proofs.Math.Seq.{drop-cons}
 use Rattle.std.proofs.lemmas.List.Elements.{All-nil, All-append}
 use Rattle.query_tree.specs.declared.query.Query.{Query}
@@ -103,9 +103,6 @@ pub record Done (all rest : List Condition) (old now : ℕ) (refused now_refused
   pub never_falls : old ≤ now
   pub kept : now_refused ≡ refused
 
-pub done_none : (all : List Condition) (old : ℕ) (refused : Option (List ℕ)) → Done all all old old refused refused
-done_none all old refused = record { done = []; split = refl; read = All-nil (λ (c : Condition). IsPattern c.text); never_falls = omega arith; kept = refl }
-
 pub done_more : (all more rest : List Condition) (old mid new : ℕ) (refused mid_refused new_refused : Option (List ℕ)) → Done all (more ++ rest) old mid refused mid_refused → ArePatterns more → mid ≤ new → new_refused ≡ mid_refused → Done all rest old new refused new_refused
 done_more all more rest old mid new refused mid_refused new_refused d read falls kept = record {
   done = d.done ++ more;
@@ -121,12 +118,6 @@ pub done_refused : (all more rest : List Condition) (old mid new : ℕ) (refused
 done_refused all more rest old mid new refused mid_refused new_refused (faults.Refused refusal) d h =
     (h.0, told_from old mid new new_refused h.0 d.never_falls h.1, refusal_within h.0 all d.done more rest refusal d.split d.read h.2)
 done_refused all more rest old mid new refused mid_refused new_refused faults.OutOfMemory d h = tt
-
-pub done_keeps : (all rest : List Condition) (old mid : ℕ) (refused mid_refused new_refused : Option (List ℕ)) (fault : ChangeFault) → Done all rest old mid refused mid_refused → KeepsBut mid_refused new_refused fault → KeepsBut refused new_refused fault
-done_keeps all rest old mid refused mid_refused new_refused fault d h = subst (λ (o : Option (List ℕ)). KeepsBut o new_refused fault) d.kept h
-
-pub done_all : (all rest : List Condition) (old new : ℕ) (refused new_refused : Option (List ℕ)) → rest ≡ [] → Done all rest old new refused new_refused → ArePatterns all
-done_all all rest old new refused new_refused none d = subst ArePatterns (sym (d.split ∙ ap (λ (l : List Condition). d.done ++ l) none ∙ append-nil d.done)) d.read
 
 -- the conditions of the queries from one on
 abbrev pub conditions_from : List Query → ℕ → List Condition
