@@ -1,5 +1,5 @@
 -- The conditions of queries, and how building one after another adds up.
-use Rattle.std.proofs.Common.{◌≡◌, ℕ, zero, suc, ◌+◌, ◌<◌, ◌≤◌, List, [], ◌∷◌, ◌++◌, length, All, Option, Some, None, Ok, refl, sym, ap, subst, ◌∙◌, arith, append_assoc, map, drop, get_or, add-one}
+use Rattle.std.proofs.Common.{◌≡◌, ℕ, zero, suc, ◌+◌, ◌<◌, ◌≤◌, List, [], ◌∷◌, ◌++◌, length, All, Option, Some, None, Ok, refl, sym, ap, ◌∙◌, arith, append_assoc, map, drop, get_or, add-one}
 use Rattle.std.proofs.Math.Seq.{drop-cons}
 use Rattle.std.proofs.lemmas.List.Elements.{All-nil, All-append}
 use Rattle.query_tree.specs.declared.query.Query.{Query}
@@ -13,7 +13,7 @@ use Rattle.machine_state.specs.declared.refusal.Refusal.{Refusal}
 use Rattle.machine_state.specs.declared.refusal.Refusal.TheVariants.{BadPattern, PatternTooLarge}
 use Rattle.step_model.specs.Case.{Condition, numbered, conditions_behind}
 use Rattle.step_model.specs.Refuses.{ArePatterns, IsPatternRefusal, IsPick}
-use Rattle.step_model.specs.Answers.{FaultIs, IsTold, KeepsBut, Told}
+use Rattle.step_model.specs.Answers.{FaultIs, IsTold, Told}
 
 all_cons : {X : Type 0} (P : X → Type 0) (x : X) (xs : List X) → P x → All P xs → All P (x ∷ xs)
 all_cons P x xs p all zero d l = p
