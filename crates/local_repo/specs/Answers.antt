@@ -1,5 +1,5 @@
 -- What the arrival of a folder answers, and what it does to the store.
-use Rattle.std.specs.Prelude.{◌≡◌, ℕ, List, [], length, Option, Some, None, Result, Ok, Err, if◌then◌else◌, ◌⊎◌, All, ◌≤◌}
+use Rattle.std.specs.Prelude.{◌≡◌, ℕ, List, [], length, Option, Some, None, Result, Ok, Err, ◌⊎◌, All, ◌≤◌}
 use Rattle.ap_host.specs.Disk.{Path, Files, Log, extended, live_of}
 use Rattle.package_core.specs.Card.{Card}
 use Rattle.machine_state.specs.declared.refusal.Refusal.{Refusal}

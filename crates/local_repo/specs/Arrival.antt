@@ -2,7 +2,6 @@
 use Rattle.std.specs.Prelude.{◌≡◌, ℕ, List, [], Option, Some, None, Result, Ok, Err, codes}
 use Rattle.ap_text.specs.Paths.{below_folder}
 use Rattle.ap_host.specs.Disk.{Path, Files}
-use Rattle.digest_set.specs.declared.facts.What.{What}
 use Rattle.package_core.specs.Card.{Card}
 use Rattle.package_list.specs.Lists.{union}
 use Rattle.package_list.specs.Answers.{append_answer, join_answer}
