@@ -64,12 +64,72 @@ fn taken<R: Files<File = File> + AllocGlobal + Clone + Drop>(
     inbox.read_at(file, 0, &mut out)
 }
 
-/// Whether a second host gets the store too.
-fn is_claimed_twice<R: Files<File = File> + Print + AllocGlobal + Clone + Drop>(
+/// Whether a host gets the store, and a second one doesn't.
+fn is_claimed_once<R: Files<File = File> + Print + AllocGlobal + Clone + Drop>(
     rt: &R,
+    host: &mut FolderHost<'_, R>,
     folder: &str,
 ) -> Result<bool, HostErr> {
-    FolderHost::new(rt, folder)?.claim()
+    let first = host.claim()?;
+    Ok(first && !FolderHost::new(rt, folder)?.claim()?)
+}
+
+/// Whether a file that is laid is read back, and is its folder's only one, and the staged one is gone.
+fn is_laid<R: Files<File = File> + Print + AllocGlobal + Clone + Drop>(
+    host: &mut FolderHost<'_, R>,
+    staged: &SafePath,
+    root: &SafePath,
+    folder: &SafePath,
+) -> Result<bool, HostErr> {
+    lay(host, staged, root)?;
+    let gone = matches!(read(host, staged)?, (None, 0, [0, 0, 0]));
+    let there = matches!(read(host, root)?, (Some(5), 2, [b'l', b'o', 0]));
+    let fails = matches!(host.append(staged, b"!"), Err(HostErr::Failed));
+    Ok(gone && there && fails && has_only(host, folder, root)?)
+}
+
+/// Whether an inbox gives a file of the folder, and none of the folder below it where a store is.
+fn is_given<R: Files<File = File> + AllocGlobal + Clone + Drop>(
+    rt: &R,
+    above: &str,
+    folder: &str,
+    root: &SafePath,
+    stored: &SafePath,
+) -> bool {
+    matches!(taken(rt, folder, root), Ok(3)) && matches!(taken(rt, above, stored), Ok(0))
+}
+
+/// Whether all is as it should be of a store in a folder.
+fn is_well<R: Files<File = File> + Print + AllocGlobal + Clone + Drop>(
+    rt: &R,
+    host: &mut FolderHost<'_, R>,
+    above: &str,
+    folder: &str,
+) -> Result<bool, HostErr> {
+    let alloc = rt.alloc();
+    let staged = path(alloc, "stage/0")?;
+    let root = path(alloc, "db/root")?;
+    let claimed = is_claimed_once(rt, host, folder)?;
+    let laid = is_laid(host, &staged, &root, &path(alloc, "db")?)?;
+    let given = is_given(
+        rt,
+        above,
+        folder,
+        &root,
+        &path(alloc, "aptly-store/db/root")?,
+    );
+    host.remove(&root)?;
+    host.say(b"")?;
+    Ok(claimed && laid && given)
+}
+
+fn is_store_well<R: Files<File = File> + Print + AllocGlobal + Clone + Drop>(
+    rt: &R,
+    above: &str,
+    folder: &str,
+) -> Result<bool, HostErr> {
+    let mut host = FolderHost::new(rt, folder)?;
+    is_well(rt, &mut host, above, folder)
 }
 
 #[test]
@@ -81,21 +141,10 @@ fn a_file_is_laid_and_read_back(rt: HostRuntime) -> Result<(), Fail> {
         process::id(rt.process())
     )?;
     let folder = format!(in alloc; "{}/aptly-store", above.as_str())?;
-    let staged = path(alloc, "stage/0")?;
-    let root = path(alloc, "db/root")?;
-    let mut host = FolderHost::new(&rt, folder.as_str())?;
-    assert_eq!(rt; host.claim(), Ok(true));
-    assert_eq!(rt; is_claimed_twice(&rt, folder.as_str()), Ok(false));
-    lay(&mut host, &staged, &root)?;
-    assert_eq!(rt; read(&mut host, &staged), Ok((None, 0, *b"\0\0\0")));
-    assert_eq!(rt; read(&mut host, &root), Ok((Some(5), 2, *b"lo\0")));
-    assert_eq!(rt; has_only(&mut host, &path(alloc, "db")?, &root), Ok(true));
-    assert_eq!(rt; host.append(&staged, b"!"), Err(HostErr::Failed));
-    assert_eq!(rt; taken(&rt, folder.as_str(), &root), Ok(3));
-    let stored = path(alloc, "aptly-store/db/root")?;
-    assert_eq!(rt; taken(&rt, above.as_str(), &stored), Ok(0));
-    host.remove(&root)?;
-    host.say(b"")?;
+    assert_eq!(rt;
+        is_store_well(&rt, above.as_str(), folder.as_str()),
+        Ok(true)
+    );
     fs::remove_dir_all(&rt, above.as_str())?;
     Ok(())
 }
