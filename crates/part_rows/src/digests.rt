@@ -1,5 +1,6 @@
 //! Calls of digest_set.
 
+use crate::answers::{Answer, reply};
 use digest_set::{Digests, Digits, Hashing, Said, What, digest_of_hex, digests_of, mismatch};
 use row_table::{Desk, Stop, first_word, number_of, put, put_at};
 use std::alloc::AllocError;
@@ -68,7 +69,7 @@ fn read(desk: &Desk, out: &mut String, rest: &str) -> Result<(), Stop> {
 }
 
 /// The name of what differs.
-pub fn what_text(what: What) -> &'static str {
+fn what_text(what: What) -> &'static str {
     match what {
         What::Size => "size",
         What::Sha256 => "sha256",
@@ -77,14 +78,21 @@ pub fn what_text(what: What) -> &'static str {
     }
 }
 
-/// What differs, as said and as found.
-pub fn put_difference(
+/// Puts what differs, as said and as found.
+pub fn put_difference<'a>(
     out: &mut String,
-    difference: &(What, Digits, Digits),
+    what: What,
+    said: &'a Digits,
+    found: &'a Digits,
 ) -> Result<(), AllocError> {
-    let (what, said, found) = difference;
-    put(out, &[what_text(*what), " "])?;
+    put(out, &[what_text(what), " "])?;
     put(out, &[said.as_str(), " ", found.as_str()])
+}
+
+impl Answer for (What, Digits, Digits) {
+    fn put(&self, out: &mut String) -> Result<(), AllocError> {
+        put_difference(out, self.0, &self.1, &self.2)
+    }
 }
 
 fn optional<const N: usize>(text: &str) -> Result<Option<[u8; N]>, Stop> {
@@ -116,9 +124,5 @@ fn said_of(rest: &str) -> Result<(Said, &str), Stop> {
 fn differs(desk: &Desk, out: &mut String, rest: &str) -> Result<(), Stop> {
     let (said, rest) = said_of(rest)?;
     let bytes = desk.bytes(rest)?;
-    match mismatch(desk.alloc, &said, &digests_of(&bytes))? {
-        Some(difference) => put_difference(out, &difference)?,
-        None => out.push_str("none")?,
-    }
-    Ok(())
+    reply(out, mismatch(desk.alloc, &said, &digests_of(&bytes))?)
 }

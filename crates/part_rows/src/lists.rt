@@ -1,6 +1,7 @@
 //! Calls of package_list.
 
-use crate::packages::package_of;
+use crate::answers::{Answer, reply};
+use crate::packages::{package_of, put_triple};
 use package_core::Package;
 use package_list::{ListFault, PackageList};
 use row_table::{Desk, Stop, first_word, number_of, put, put_at, yes_or_no};
@@ -21,22 +22,36 @@ pub fn play(desk: &mut Desk, out: &mut String, call: &str, rest: &str) -> Result
 fn put_members(out: &mut String, list: &PackageList) -> Result<(), AllocError> {
     for member in list.as_slice() {
         let of = member.package();
-        let triple = of.triple(*out.allocator())?;
-        put(out, &[" ", triple.as_str()])?;
+        put(out, &[" "])?;
+        put_triple(out, of)?;
         put_at(out, "/", of.said.size)?;
     }
     Ok(())
 }
 
-fn put_fault(out: &mut String, fault: &ListFault) -> Result<(), AllocError> {
-    match fault {
-        ListFault::Conflict(triple) => put(out, &["conflict ", triple.as_str()]),
-        ListFault::Full => out.push_str("full"),
-        ListFault::OutOfMemory => out.push_str("out of memory"),
+impl Answer for ListFault {
+    fn put(&self, out: &mut String) -> Result<(), AllocError> {
+        match self {
+            ListFault::Conflict(triple) => put(out, &["conflict ", triple.as_str()]),
+            ListFault::Full => out.push_str("full"),
+            ListFault::OutOfMemory => out.push_str("out of memory"),
+        }
     }
 }
 
-/// Prints a list that was made, and keeps it under its number.
+/// The number of the last list, and its members.
+fn put_last(out: &mut String, lists: &[PackageList]) -> Result<(), AllocError> {
+    match lists.split_last() {
+        Some((list, earlier)) => {
+            put_at(out, "list ", earlier.len() as u64)?;
+            put(out, &[":"])?;
+            put_members(out, list)
+        }
+        None => Ok(()),
+    }
+}
+
+/// Keeps a list that was made, and prints it with its number.
 fn keep(
     lists: &mut Vec<PackageList>,
     out: &mut String,
@@ -44,14 +59,11 @@ fn keep(
 ) -> Result<(), Stop> {
     match made {
         Ok(list) => {
-            put_at(out, "list ", lists.len() as u64)?;
-            put(out, &[":"])?;
-            put_members(out, &list)?;
             lists.push(list)?;
+            Ok(put_last(out, lists)?)
         }
-        Err(fault) => put_fault(out, &fault)?,
+        Err(fault) => reply(out, fault),
     }
-    Ok(())
 }
 
 fn inserted(alloc: Global, packages: &[Package]) -> Result<PackageList, ListFault> {
@@ -117,22 +129,32 @@ fn combine(desk: &mut Desk, out: &mut String, call: &str, rest: &str) -> Result<
 }
 
 /// Whether a list has a package, and the size of the equal member's file.
+fn put_equal(out: &mut String, list: &PackageList, wanted: &Package) -> Result<(), AllocError> {
+    put(out, &[yes_or_no(list.has(wanted))])?;
+    match list.equal_of(wanted) {
+        Some(member) => put_at(out, " ", member.said.size),
+        None => Ok(()),
+    }
+}
+
+/// The same of a list and the package of a text.
 fn equal(desk: &Desk, out: &mut String, rest: &str) -> Result<(), Stop> {
     let (list, rest) = first_word(rest)?;
     let list = list_at(&desk.lists, list)?;
     let wanted = package_of(desk, rest)?;
-    out.push_str(yes_or_no(list.has(&wanted)))?;
-    if let Some(member) = list.equal_of(&wanted) {
-        put_at(out, " ", member.said.size)?;
-    }
-    Ok(())
+    Ok(put_equal(out, list, &wanted)?)
+}
+
+/// Takes the package of a text out of a list; whether it was there.
+fn take_out(desk: &Desk, list: &mut PackageList, rest: &str) -> Result<bool, Stop> {
+    let gone = package_of(desk, rest)?;
+    Ok(list.remove(&gone))
 }
 
 /// A copy of a list without a package, and whether it had it.
 fn remove(desk: &mut Desk, out: &mut String, rest: &str) -> Result<(), Stop> {
     let (list, rest) = first_word(rest)?;
-    let gone = package_of(desk, rest)?;
     let mut made = list_at(&desk.lists, list)?.copy(desk.alloc)?;
-    put(out, &[yes_or_no(made.remove(&gone)), " "])?;
+    put(out, &[yes_or_no(take_out(desk, &mut made, rest)?), " "])?;
     keep(&mut desk.lists, out, Ok(made))
 }

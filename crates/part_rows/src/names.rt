@@ -1,5 +1,6 @@
 //! Calls of ap_text, and of the texts of control_stanza.
 
+use crate::answers::{Answer, reply};
 use ap_text::{
     Name, SafePath, TextFault, is_name, is_package_name, is_safe_path, read_decimal, write_decimal,
 };
@@ -28,23 +29,33 @@ pub fn play_path(desk: &Desk, out: &mut String, call: &str, rest: &str) -> Resul
     }
 }
 
-fn put_fault(out: &mut String, fault: TextFault) -> Result<(), AllocError> {
-    match fault {
-        TextFault::Empty => out.push_str("empty"),
-        TextFault::TooLong => out.push_str("too long"),
-        TextFault::BadByte(place) => put_at(out, "bad byte at ", place),
-        TextFault::OutOfMemory => out.push_str("out of memory"),
+impl Answer for TextFault {
+    fn put(&self, out: &mut String) -> Result<(), AllocError> {
+        match self {
+            TextFault::Empty => out.push_str("empty"),
+            TextFault::TooLong => out.push_str("too long"),
+            TextFault::BadByte(place) => put_at(out, "bad byte at ", *place),
+            TextFault::OutOfMemory => out.push_str("out of memory"),
+        }
+    }
+}
+
+impl Answer for Name {
+    fn put(&self, out: &mut String) -> Result<(), AllocError> {
+        out.push_str(self.as_str())
+    }
+}
+
+impl Answer for SafePath {
+    fn put(&self, out: &mut String) -> Result<(), AllocError> {
+        out.push_str(self.as_str())
     }
 }
 
 fn read_name(desk: &Desk, out: &mut String, rest: &str) -> Result<(), Stop> {
     let text = desk.word(rest)?;
     put(out, &[yes_or_no(is_name(text.as_str())), " "])?;
-    match Name::new(desk.alloc, text.as_str()) {
-        Ok(name) => out.push_str(name.as_str())?,
-        Err(fault) => put_fault(out, fault)?,
-    }
-    Ok(())
+    reply(out, Name::new(desk.alloc, text.as_str()))
 }
 
 fn package_name(desk: &Desk, out: &mut String, rest: &str) -> Result<(), Stop> {
@@ -81,11 +92,7 @@ fn number(desk: &Desk, out: &mut String, rest: &str) -> Result<(), Stop> {
 fn read_path(desk: &Desk, out: &mut String, rest: &str) -> Result<(), Stop> {
     let text = desk.word(rest)?;
     put(out, &[yes_or_no(is_safe_path(text.as_str())), " "])?;
-    match SafePath::new(desk.alloc, text.as_str()) {
-        Ok(path) => out.push_str(path.as_str())?,
-        Err(fault) => put_fault(out, fault)?,
-    }
-    Ok(())
+    reply(out, SafePath::new(desk.alloc, text.as_str()))
 }
 
 fn two_paths(desk: &Desk, rest: &str) -> Result<(SafePath, SafePath), Stop> {
@@ -109,17 +116,20 @@ fn made(desk: &Desk, out: &mut String, rest: &str) -> Result<(), Stop> {
         return Err(Stop::NoCall);
     }
     let made = SafePath::numbered(desk.alloc, &folder, number_of(number)?)?;
-    if made.as_str().len() > 500 {
+    put_joined(out, &folder, &made)
+}
+
+/// A path, and that one joined to the folder.
+fn put_joined(out: &mut String, folder: &SafePath, made: &SafePath) -> Result<(), Stop> {
+    if folder.as_str().len() > 400 || made.as_str().len() > 500 {
         return Err(Stop::NoCall);
     }
-    let joined = SafePath::joined(desk.alloc, &folder, &made)?;
     put(out, &[made.as_str(), " "])?;
-    Ok(put(out, &[joined.as_str()])?)
+    reply(out, SafePath::joined(*out.allocator(), folder, made)?)
 }
 
 /// The path of one segment that a name is.
 fn named(desk: &Desk, out: &mut String, rest: &str) -> Result<(), Stop> {
     let name = desk.name(rest)?;
-    let path = SafePath::of_name(desk.alloc, &name)?;
-    Ok(put(out, &[path.as_str()])?)
+    reply(out, SafePath::of_name(desk.alloc, &name)?)
 }

@@ -1,10 +1,11 @@
 //! Calls of hash_pool over a store in memory.
 ghost use Rattle.std.specs.Prelude.{None};
 
-use crate::digests::what_text;
+use crate::answers::{Answer, reply};
+use crate::digests::put_difference;
 use ap_host::{Bytes, Inbox, InboxErr, MemHost};
 use ap_text::SafePath;
-use digest_set::{Digests, Said, digests_of};
+use digest_set::{Said, digests_of};
 use hash_pool::{PoolFault, get, has, length, pool_path, take};
 use row_table::{Desk, Stop, number_of, put, put_at, yes_or_no};
 use stage_file::Stage;
@@ -28,23 +29,43 @@ fn store_of(desk: &Desk, sha256: &[u8; 32], bytes: &[u8]) -> Result<MemHost, All
     MemHost::new(desk.alloc, files, Vec::new(desk.alloc), false)
 }
 
+fn put_path(out: &mut String, sha256: &[u8; 32]) -> Result<(), AllocError> {
+    let path = pool_path(*out.allocator(), sha256)?;
+    out.push_str(path.as_str())
+}
+
+/// Whether a file and another one are there, and the length of the first.
+fn put_there(out: &mut String, host: &mut MemHost, sha256: &[u8; 32]) -> Result<(), AllocError> {
+    let own = has(*out.allocator(), host, sha256).unwrap_or(false);
+    let other = has(*out.allocator(), host, &[0; 32]).unwrap_or(true);
+    put(out, &[" ", yes_or_no(own), " ", yes_or_no(other)])?;
+    match length(*out.allocator(), host, sha256) {
+        Ok(Some(length)) => put_at(out, " ", length),
+        _ => Ok(()),
+    }
+}
+
+/// Whether these bytes are given.
+fn put_given(
+    out: &mut String,
+    host: &mut MemHost,
+    sha256: &[u8; 32],
+    bytes: &[u8],
+) -> Result<(), AllocError> {
+    match get(*out.allocator(), host, sha256) {
+        Ok(Some(found)) => put(out, &[" ", yes_or_no(found.as_slice() == bytes)]),
+        _ => Ok(()),
+    }
+}
+
 /// The path of a file of the pool, whether it and another one are there, its length and its bytes.
 fn given(desk: &Desk, out: &mut String, rest: &str) -> Result<(), Stop> {
     let bytes = desk.bytes(rest)?;
     let sha256 = digests_of(&bytes).sha256;
     let mut host = store_of(desk, &sha256, &bytes)?;
-    let path = pool_path(desk.alloc, &sha256)?;
-    put(out, &[path.as_str()])?;
-    let own = has(desk.alloc, &mut host, &sha256).unwrap_or(false);
-    let other = has(desk.alloc, &mut host, &[0; 32]).unwrap_or(true);
-    put(out, &[" ", yes_or_no(own), " ", yes_or_no(other)])?;
-    if let Ok(Some(length)) = length(desk.alloc, &mut host, &sha256) {
-        put_at(out, " ", length)?;
-    }
-    if let Ok(Some(found)) = get(desk.alloc, &mut host, &sha256) {
-        put(out, &[" ", yes_or_no(found.as_slice() == bytes.as_slice())])?;
-    }
-    Ok(())
+    put_path(out, &sha256)?;
+    put_there(out, &mut host, &sha256)?;
+    Ok(put_given(out, &mut host, &sha256, &bytes)?)
 }
 
 /// An inbox whose files have a length and give no byte.
@@ -68,42 +89,46 @@ impl Inbox for Hollow {
 }
 
 /// What was said of a file and found otherwise.
-fn put_fault(out: &mut String, fault: &PoolFault) -> Result<(), AllocError> {
-    match fault {
-        PoolFault::Mismatch(what, said, found) => {
-            put(out, &[what_text(*what), " "])?;
-            put(out, &[said.as_str(), " ", found.as_str()])
+impl Answer for PoolFault {
+    fn put(&self, out: &mut String) -> Result<(), AllocError> {
+        match self {
+            PoolFault::Mismatch(what, said, found) => put_difference(out, *what, said, found),
+            _ => Ok(()),
         }
-        _ => Ok(()),
     }
 }
 
-fn put_taken(out: &mut String, taken: &Result<Digests, PoolFault>) -> Result<(), AllocError> {
-    match taken {
-        Ok(_) => Ok(()),
-        Err(fault) => put_fault(out, fault),
-    }
-}
-
-/// A file that has the stated length and gives no byte, taken into an empty store.
-fn take_hollow(desk: &Desk, out: &mut String, rest: &str) -> Result<(), Stop> {
-    let size = number_of(rest)?;
+/// What is told of such a file, and how many operations the store then had.
+fn put_hollow(
+    out: &mut String,
+    host: &mut MemHost,
+    path: &SafePath,
+    size: u64,
+) -> Result<(), Stop> {
+    let alloc = *out.allocator();
     let mut inbox = Hollow { length: size };
-    let mut host = MemHost::new(
-        desk.alloc,
-        Vec::new(desk.alloc),
-        Vec::new(desk.alloc),
-        false,
-    )?;
-    let mut stage = Stage::new(desk.alloc);
-    let path = desk.path("in/file")?;
+    let mut stage = Stage::new(alloc);
     let said = Said {
         size,
         sha256: [0; 32],
         sha1: None,
         md5: None,
     };
-    let taken = take(desk.alloc, &mut host, &mut stage, &mut inbox, &path, &said);
-    put_taken(out, &taken)?;
+    if let Err(fault) = take(alloc, host, &mut stage, &mut inbox, path, &said) {
+        reply(out, fault)?;
+    }
     Ok(put_at(out, ", operations ", host.log().len() as u64)?)
+}
+
+/// A file that has the stated length and gives no byte, taken into an empty store.
+fn take_hollow(desk: &Desk, out: &mut String, rest: &str) -> Result<(), Stop> {
+    let size = number_of(rest)?;
+    let path = desk.path("in/file")?;
+    let mut host = MemHost::new(
+        desk.alloc,
+        Vec::new(desk.alloc),
+        Vec::new(desk.alloc),
+        false,
+    )?;
+    put_hollow(out, &mut host, &path, size)
 }

@@ -1,5 +1,6 @@
 //! Calls of query_grammar.
 
+use crate::answers::{Answer, reply};
 use crate::relations::put_relation;
 use query_grammar::{Query, QueryFault, QueryKind, Test, read_filter, read_query, write_query};
 use row_table::{Desk, Stop, put, put_at, put_bytes};
@@ -9,8 +10,8 @@ pub fn play(desk: &Desk, out: &mut String, call: &str, rest: &str) -> Result<(),
     let text = desk.text(rest)?;
     match call {
         "tree" => tree(desk, out, text.as_str()),
-        "write" => write(out, &read_query(desk.alloc, text.as_str())),
-        "filter" => write(out, &read_filter(desk.alloc, text.as_str())),
+        "write" => write(out, read_query(desk.alloc, text.as_str())),
+        "filter" => write(out, read_filter(desk.alloc, text.as_str())),
         _ => Err(Stop::NoCall),
     }
 }
@@ -28,13 +29,21 @@ fn kind_text(kind: QueryKind) -> &'static str {
     }
 }
 
-fn put_fault(out: &mut String, fault: QueryFault) -> Result<(), AllocError> {
-    match fault {
-        QueryFault::At { place, kind } => {
-            put_at(out, "at ", place)?;
-            put(out, &[": ", kind_text(kind)])
+impl Answer for QueryFault {
+    fn put(&self, out: &mut String) -> Result<(), AllocError> {
+        match self {
+            QueryFault::At { place, kind } => {
+                put_at(out, "at ", *place)?;
+                put(out, &[": ", kind_text(*kind)])
+            }
+            QueryFault::OutOfMemory => out.push_str("out of memory"),
         }
-        QueryFault::OutOfMemory => out.push_str("out of memory"),
+    }
+}
+
+impl Answer for Query {
+    fn put(&self, out: &mut String) -> Result<(), AllocError> {
+        put_tree(out, self)
     }
 }
 
@@ -106,20 +115,21 @@ fn put_branches(out: &mut String, kind: &str, queries: &[Query]) -> Result<(), A
 
 fn tree(desk: &Desk, out: &mut String, text: &str) -> Result<(), Stop> {
     match read_query(desk.alloc, text) {
-        Ok(query) => put_tree(out, &query.copy(desk.alloc)?)?,
-        Err(fault) => put_fault(out, fault)?,
+        Ok(query) => reply(out, query.copy(desk.alloc)?),
+        Err(fault) => reply(out, fault),
     }
-    Ok(())
+}
+
+fn put_written(out: &mut String, query: &Query) -> Result<(), Stop> {
+    let mut text = Vec::new(*out.allocator());
+    write_query(&mut text, query)?;
+    put_bytes(out, &text)
 }
 
 /// The text of a query that was read.
-fn write(out: &mut String, read: &Result<Query, QueryFault>) -> Result<(), Stop> {
+fn write(out: &mut String, read: Result<Query, QueryFault>) -> Result<(), Stop> {
     match read {
-        Ok(query) => {
-            let mut text = Vec::new(*out.allocator());
-            write_query(&mut text, query)?;
-            put_bytes(out, &text)
-        }
-        Err(fault) => Ok(put_fault(out, *fault)?),
+        Ok(query) => put_written(out, &query),
+        Err(fault) => reply(out, fault),
     }
 }

@@ -4,21 +4,41 @@ use control_stanza::Text;
 use machine_state::{Kind, Limit, Refusal};
 use reply_text::refusal_line;
 use row_table::{Desk, Stop, first_word};
+use std::alloc::AllocError;
 
 pub fn play(desk: &Desk, out: &mut String, call: &str, rest: &str) -> Result<(), Stop> {
-    let refusal = match call {
-        "bad-name" => Refusal::BadName(Text::new(desk.alloc, desk.word(rest)?.as_str())?),
-        "no-distribution" => Refusal::NoDistribution,
-        "no-architectures" => Refusal::NoArchitectures,
-        "not-updated" => Refusal::NotUpdated(desk.name(rest)?),
-        "clash" => Refusal::FileClash(desk.path(rest)?),
-        "release-bytes" => Refusal::Limit(Limit::ReleaseBytes),
-        "exists" => exists(desk, rest)?,
-        "unknown" => unknown(desk, rest)?,
-        _ => return Err(Stop::NoCall),
-    };
-    let line = refusal_line(desk.alloc, &refusal.copy(desk.alloc)?)?;
-    Ok(out.push_str(line.as_str())?)
+    let refusal = refusal_of(desk, call, rest)?;
+    Ok(put_copy(out, &refusal)?)
+}
+
+/// The refusal that a call is about.
+fn refusal_of(desk: &Desk, call: &str, rest: &str) -> Result<Refusal, Stop> {
+    match call {
+        "bad-name" => Ok(Refusal::BadName(text_of(desk, rest)?)),
+        "no-distribution" => Ok(Refusal::NoDistribution),
+        "no-architectures" => Ok(Refusal::NoArchitectures),
+        "not-updated" => Ok(Refusal::NotUpdated(desk.name(rest)?)),
+        "clash" => Ok(Refusal::FileClash(desk.path(rest)?)),
+        "release-bytes" => Ok(Refusal::Limit(Limit::ReleaseBytes)),
+        _ => named(desk, call, rest),
+    }
+}
+
+fn text_of(desk: &Desk, rest: &str) -> Result<Text, Stop> {
+    let word = desk.word(rest)?;
+    Ok(Text::new(desk.alloc, word.as_str())?)
+}
+
+/// The line of a refusal.
+fn put_line(out: &mut String, refusal: &Refusal) -> Result<(), AllocError> {
+    let line = refusal_line(*out.allocator(), refusal)?;
+    out.push_str(line.as_str())
+}
+
+/// The line of a refusal, as a copy has it.
+fn put_copy(out: &mut String, refusal: &Refusal) -> Result<(), AllocError> {
+    let copy = refusal.copy(*out.allocator())?;
+    put_line(out, &copy)
 }
 
 fn kind_of(word: &str) -> Result<Kind, Stop> {
@@ -31,12 +51,13 @@ fn kind_of(word: &str) -> Result<Kind, Stop> {
     }
 }
 
-fn exists(desk: &Desk, rest: &str) -> Result<Refusal, Stop> {
+/// A refusal that names a thing of some kind.
+fn named(desk: &Desk, call: &str, rest: &str) -> Result<Refusal, Stop> {
     let (kind, name) = first_word(rest)?;
-    Ok(Refusal::Exists(kind_of(kind)?, desk.name(name)?))
-}
-
-fn unknown(desk: &Desk, rest: &str) -> Result<Refusal, Stop> {
-    let (kind, name) = first_word(rest)?;
-    Ok(Refusal::Unknown(kind_of(kind)?, desk.name(name)?))
+    let kind = kind_of(kind)?;
+    match call {
+        "exists" => Ok(Refusal::Exists(kind, desk.name(name)?)),
+        "unknown" => Ok(Refusal::Unknown(kind, desk.name(name)?)),
+        _ => Err(Stop::NoCall),
+    }
 }

@@ -1,5 +1,6 @@
 //! Calls of depends_field.
 
+use crate::answers::{Answer, reply};
 use crate::versions::relation_text;
 use deb_version::{Relation, Version};
 use depends_field::{Alternative, DependsFault, Group, read_depends, read_provides};
@@ -9,23 +10,18 @@ use std::alloc::AllocError;
 pub fn play(desk: &Desk, out: &mut String, call: &str, rest: &str) -> Result<(), Stop> {
     let text = desk.text(rest)?;
     match call {
-        "depends" => match read_depends(desk.alloc, text.as_str()) {
-            Ok(groups) => put_groups(out, &groups)?,
-            Err(fault) => put_fault(out, fault)?,
-        },
-        "provides" => match read_provides(desk.alloc, text.as_str()) {
-            Ok(list) => put_provided(out, &list)?,
-            Err(fault) => put_fault(out, fault)?,
-        },
-        _ => return Err(Stop::NoCall),
+        "depends" => reply(out, read_depends(desk.alloc, text.as_str())),
+        "provides" => reply(out, read_provides(desk.alloc, text.as_str())),
+        _ => Err(Stop::NoCall),
     }
-    Ok(())
 }
 
-fn put_fault(out: &mut String, fault: DependsFault) -> Result<(), AllocError> {
-    match fault {
-        DependsFault::At { place } => put_at(out, "at ", place),
-        DependsFault::OutOfMemory => out.push_str("out of memory"),
+impl Answer for DependsFault {
+    fn put(&self, out: &mut String) -> Result<(), AllocError> {
+        match self {
+            DependsFault::At { place } => put_at(out, "at ", *place),
+            DependsFault::OutOfMemory => out.push_str("out of memory"),
+        }
     }
 }
 
@@ -49,8 +45,7 @@ fn put_alternative(
     mark: &str,
     alternative: &Alternative,
 ) -> Result<(), AllocError> {
-    put(out, &[mark])?;
-    put(out, &[alternative.name.as_str()])?;
+    put(out, &[mark, alternative.name.as_str()])?;
     if let Some(arch) = &alternative.arch {
         put(out, &[":", arch.as_str()])?;
     }
@@ -66,19 +61,24 @@ fn put_group(out: &mut String, group: &Group) -> Result<(), AllocError> {
 }
 
 /// How many groups there are, and the groups.
-fn put_groups(out: &mut String, groups: &[Group]) -> Result<(), AllocError> {
-    put_at(out, "groups ", groups.len() as u64)?;
-    for (i, group) in groups.iter().enumerate() {
-        put(out, &[if i == 0 { ":" } else { "," }])?;
-        put_group(out, group)?;
+impl Answer for Vec<Group> {
+    fn put(&self, out: &mut String) -> Result<(), AllocError> {
+        put_at(out, "groups ", self.len() as u64)?;
+        for (i, group) in self.iter().enumerate() {
+            put(out, &[if i == 0 { ":" } else { "," }])?;
+            put_group(out, group)?;
+        }
+        Ok(())
     }
-    Ok(())
 }
 
-fn put_provided(out: &mut String, list: &[Alternative]) -> Result<(), AllocError> {
-    put_at(out, "alternatives ", list.len() as u64)?;
-    for (i, alternative) in list.iter().enumerate() {
-        put_alternative(out, if i == 0 { ": " } else { ", " }, alternative)?;
+/// How many alternatives there are, and the alternatives.
+impl Answer for Vec<Alternative> {
+    fn put(&self, out: &mut String) -> Result<(), AllocError> {
+        put_at(out, "alternatives ", self.len() as u64)?;
+        for (i, alternative) in self.iter().enumerate() {
+            put_alternative(out, if i == 0 { ": " } else { ", " }, alternative)?;
+        }
+        Ok(())
     }
-    Ok(())
 }

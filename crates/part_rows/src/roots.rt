@@ -1,5 +1,6 @@
 //! Calls of catalogue_text.
 
+use crate::answers::{Answer, reply};
 use catalogue_text::{RootFault, read_root, root_text};
 use machine_state::{Repo, State};
 use row_table::{Desk, Stop, put, put_at};
@@ -24,15 +25,28 @@ fn put_state(out: &mut String, state: &State, text: &[u8]) -> Result<(), AllocEr
     Ok(())
 }
 
+/// The same of a copy of the state.
+fn put_copy(out: &mut String, state: &State, text: &[u8]) -> Result<(), AllocError> {
+    let copy = state.copy(*out.allocator())?;
+    put_state(out, &copy, text)
+}
+
+impl Answer for RootFault {
+    fn put(&self, out: &mut String) -> Result<(), AllocError> {
+        match self {
+            RootFault::At { line } => put_at(out, "line ", *line),
+            RootFault::OutOfMemory => out.push_str("out of memory"),
+        }
+    }
+}
+
 pub fn play(desk: &Desk, out: &mut String, call: &str, rest: &str) -> Result<(), Stop> {
     let "read" = call else {
         return Err(Stop::NoCall);
     };
     let bytes = desk.bytes(rest)?;
     match read_root(desk.alloc, &bytes) {
-        Ok(state) => put_state(out, &state.copy(desk.alloc)?, &bytes)?,
-        Err(RootFault::At { line }) => put_at(out, "line ", line)?,
-        Err(RootFault::OutOfMemory) => out.push_str("out of memory")?,
+        Ok(state) => Ok(put_copy(out, &state, &bytes)?),
+        Err(fault) => reply(out, fault),
     }
-    Ok(())
 }

@@ -1,13 +1,14 @@
 //! Calls of control_stanza.
 
+use crate::answers::{Answer, reply};
 use control_stanza::{Stanza, StanzaFault, StanzaKind, read_stanzas, read_stored, write_stanza};
 use row_table::{Desk, Stop, first_word, put, put_at, put_bytes};
 use std::alloc::AllocError;
 
 pub fn play(desk: &Desk, out: &mut String, call: &str, rest: &str) -> Result<(), Stop> {
     match call {
-        "read" => put_read(out, &read_stanzas(desk.alloc, &desk.bytes(rest)?)),
-        "stored" => put_read(out, &read_stored(desk.alloc, &desk.bytes(rest)?)),
+        "read" => put_read(out, read_stanzas(desk.alloc, &desk.bytes(rest)?)),
+        "stored" => put_read(out, read_stored(desk.alloc, &desk.bytes(rest)?)),
         "count" => count(desk, out, rest),
         "get" => get(desk, out, rest),
         "without" => without(desk, out, rest),
@@ -35,37 +36,52 @@ fn put_stanza(out: &mut String, stanza: &Stanza) -> Result<(), Stop> {
 
 type Read = Result<Vec<(u64, Stanza)>, StanzaFault>;
 
-/// How many stanzas there are, or the fault.
-fn put_count(out: &mut String, read: &Read) -> Result<(), AllocError> {
-    match read {
-        Ok(found) => put_at(out, "stanzas ", found.len() as u64),
-        Err(StanzaFault::At { line, kind }) => {
-            put_at(out, "line ", *line)?;
-            put(out, &[": ", kind_text(*kind)])
-        }
-        Err(StanzaFault::OutOfMemory) => out.push_str("out of memory"),
+/// How many stanzas there are.
+impl Answer for Vec<(u64, Stanza)> {
+    fn put(&self, out: &mut String) -> Result<(), AllocError> {
+        put_at(out, "stanzas ", self.len() as u64)
     }
 }
 
-/// The same, and each stanza with its line and its text.
-fn put_read(out: &mut String, read: &Read) -> Result<(), Stop> {
-    put_count(out, read)?;
-    if let Ok(found) = read {
-        for (line, stanza) in found {
-            put_at(out, "\nat ", *line)?;
-            out.push('\n')?;
-            put_stanza(out, stanza)?;
+impl Answer for StanzaFault {
+    fn put(&self, out: &mut String) -> Result<(), AllocError> {
+        match self {
+            StanzaFault::At { line, kind } => {
+                put_at(out, "line ", *line)?;
+                put(out, &[": ", kind_text(*kind)])
+            }
+            StanzaFault::OutOfMemory => out.push_str("out of memory"),
         }
     }
+}
+
+/// Each stanza with its line and its text.
+fn put_stanzas(out: &mut String, found: &[(u64, Stanza)]) -> Result<(), Stop> {
+    for (line, stanza) in found {
+        put_at(out, "\nat ", *line)?;
+        put(out, &["\n"])?;
+        put_stanza(out, stanza)?;
+    }
     Ok(())
+}
+
+/// How many stanzas there are, and each of them, or the fault.
+fn put_read(out: &mut String, read: Read) -> Result<(), Stop> {
+    match read {
+        Ok(found) => {
+            found.put(out)?;
+            put_stanzas(out, &found)
+        }
+        Err(fault) => reply(out, fault),
+    }
 }
 
 /// What either reader answers, without the stanzas.
 fn count(desk: &Desk, out: &mut String, rest: &str) -> Result<(), Stop> {
     let bytes = desk.bytes(rest)?;
-    put_count(out, &read_stanzas(desk.alloc, &bytes))?;
+    reply(out, read_stanzas(desk.alloc, &bytes))?;
     put(out, &["; "])?;
-    Ok(put_count(out, &read_stored(desk.alloc, &bytes))?)
+    reply(out, read_stored(desk.alloc, &bytes))
 }
 
 /// The last stanza of a text that has to be readable.
@@ -79,16 +95,27 @@ pub fn last_stanza(desk: &Desk, rest: &str) -> Result<Stanza, Stop> {
     }
 }
 
+/// How many fields a stanza has, and the value of one of them.
+fn put_value(out: &mut String, stanza: &Stanza, name: &str) -> Result<(), AllocError> {
+    put_at(out, "of ", stanza.fields().len() as u64)?;
+    match stanza.get(name) {
+        Some(value) => put(out, &[": ", value]),
+        None => Ok(()),
+    }
+}
+
 /// The value of a field of the last stanza, and how many fields that has.
 fn get(desk: &Desk, out: &mut String, rest: &str) -> Result<(), Stop> {
     let (name, rest) = first_word(rest)?;
     let name = desk.word(name)?;
     let stanza = last_stanza(desk, rest)?;
-    put_at(out, "of ", stanza.fields().len() as u64)?;
-    if let Some(value) = stanza.get(name.as_str()) {
-        put(out, &[": ", value])?;
-    }
-    Ok(())
+    Ok(put_value(out, &stanza, name.as_str())?)
+}
+
+/// A stanza's text, as a copy has it.
+fn put_copy(out: &mut String, stanza: &Stanza) -> Result<(), Stop> {
+    let copy = stanza.copy(*out.allocator())?;
+    put_stanza(out, &copy)
 }
 
 /// The last stanza without a field.
@@ -97,5 +124,5 @@ fn without(desk: &Desk, out: &mut String, rest: &str) -> Result<(), Stop> {
     let name = desk.word(name)?;
     let mut stanza = last_stanza(desk, rest)?;
     stanza.remove(name.as_str());
-    put_stanza(out, &stanza.copy(desk.alloc)?)
+    put_copy(out, &stanza)
 }

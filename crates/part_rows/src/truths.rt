@@ -1,5 +1,7 @@
 //! Calls of query_eval and package_relations.
 
+use crate::answers::{Answer, reply};
+use ap_text::Name;
 use depends_field::{Alternative, read_depends};
 use package_relations::satisfies;
 use query_eval::{EvalFault, MemPatterns, Prepared, RegexPatterns, glob_matches};
@@ -17,11 +19,13 @@ pub fn play(desk: &Desk, out: &mut String, call: &str, rest: &str) -> Result<(),
     }
 }
 
-fn put_fault(out: &mut String, fault: EvalFault) -> Result<(), AllocError> {
-    match fault {
-        EvalFault::BadPattern(test) => put_at(out, "bad pattern ", test),
-        EvalFault::PatternTooLarge(test) => put_at(out, "too large pattern ", test),
-        EvalFault::OutOfMemory => out.push_str("out of memory"),
+impl Answer for EvalFault {
+    fn put(&self, out: &mut String) -> Result<(), AllocError> {
+        match self {
+            EvalFault::BadPattern(test) => put_at(out, "bad pattern ", *test),
+            EvalFault::PatternTooLarge(test) => put_at(out, "too large pattern ", *test),
+            EvalFault::OutOfMemory => out.push_str("out of memory"),
+        }
     }
 }
 
@@ -45,14 +49,17 @@ fn put_marks(desk: &Desk, out: &mut String, prepared: &Prepared) -> Result<(), A
     Ok(())
 }
 
+fn put_truth(desk: &Desk, out: &mut String, query: &Query) -> Result<(), Stop> {
+    let mut patterns = RegexPatterns::new(desk.alloc);
+    match Prepared::new(desk.alloc, query, &mut patterns) {
+        Ok(prepared) => Ok(put_marks(desk, out, &prepared)?),
+        Err(fault) => reply(out, fault),
+    }
+}
+
 fn of(desk: &Desk, out: &mut String, rest: &str) -> Result<(), Stop> {
     let query = query_of(desk, rest)?;
-    let mut patterns = RegexPatterns::new(desk.alloc);
-    match Prepared::new(desk.alloc, &query, &mut patterns) {
-        Ok(prepared) => put_marks(desk, out, &prepared)?,
-        Err(fault) => put_fault(out, fault)?,
-    }
-    Ok(())
+    put_truth(desk, out, &query)
 }
 
 /// A builder that finds the pattern of this ordinal, counted from 0, too large.
@@ -67,10 +74,9 @@ fn failing(desk: &Desk, out: &mut String, rest: &str) -> Result<(), Stop> {
     let mut patterns = failing_at(desk, ordinal)?;
     let query = query_of(desk, rest)?;
     match Prepared::new(desk.alloc, &query, &mut patterns) {
-        Ok(_) => out.push_str("prepared")?,
-        Err(fault) => put_fault(out, fault)?,
+        Ok(_) => Ok(out.push_str("prepared")?),
+        Err(fault) => reply(out, fault),
     }
-    Ok(())
 }
 
 /// The first alternative of a field that has to be readable.
@@ -87,15 +93,25 @@ fn alternative_of(desk: &Desk, rest: &str) -> Result<Alternative, Stop> {
     }
 }
 
-/// An architecture and an alternative: an `x` for each held package that satisfies it.
+/// An `x` for each held package that satisfies an alternative on an architecture.
+fn put_satisfied(
+    desk: &Desk,
+    out: &mut String,
+    alternative: &Alternative,
+    arch: &Name,
+) -> Result<(), AllocError> {
+    for package in desk.packages.iter() {
+        out.push(mark_of(satisfies(desk.alloc, package, alternative, arch)?))?;
+    }
+    Ok(())
+}
+
+/// The same of an architecture and the alternative of a text.
 fn satisfied(desk: &Desk, out: &mut String, rest: &str) -> Result<(), Stop> {
     let (arch, rest) = first_word(rest)?;
     let arch = desk.name(arch)?;
     let alternative = alternative_of(desk, rest)?;
-    for package in desk.packages.iter() {
-        out.push(mark_of(satisfies(desk.alloc, package, &alternative, &arch)?))?;
-    }
-    Ok(())
+    Ok(put_satisfied(desk, out, &alternative, &arch)?)
 }
 
 fn glob(desk: &Desk, out: &mut String, rest: &str) -> Result<(), Stop> {

@@ -1,5 +1,6 @@
 //! Calls of deb_version.
 
+use crate::answers::{Answer, reply};
 use deb_version::{Relation, Version, VersionFault, compare, meets};
 use row_table::{Desk, Stop, first_word, put, put_at, put_order, sign_of};
 use std::alloc::AllocError;
@@ -14,17 +15,21 @@ pub fn play(desk: &Desk, out: &mut String, call: &str, rest: &str) -> Result<(),
     }
 }
 
-fn put_fault(out: &mut String, fault: VersionFault) -> Result<(), AllocError> {
-    match fault {
-        VersionFault::BadEpoch => out.push_str("bad epoch"),
-        VersionFault::Empty => out.push_str("empty"),
-        VersionFault::BadByte(place) => put_at(out, "bad byte at ", place),
-        VersionFault::OutOfMemory => out.push_str("out of memory"),
+impl Answer for VersionFault {
+    fn put(&self, out: &mut String) -> Result<(), AllocError> {
+        match self {
+            VersionFault::BadEpoch => out.push_str("bad epoch"),
+            VersionFault::Empty => out.push_str("empty"),
+            VersionFault::BadByte(place) => put_at(out, "bad byte at ", *place),
+            VersionFault::OutOfMemory => out.push_str("out of memory"),
+        }
     }
 }
 
-fn put_version(out: &mut String, version: &Version) -> Result<(), AllocError> {
-    put(out, &["version ", version.as_str()])
+impl Answer for Version {
+    fn put(&self, out: &mut String) -> Result<(), AllocError> {
+        put(out, &["version ", self.as_str()])
+    }
 }
 
 type Read = Result<Version, VersionFault>;
@@ -32,10 +37,9 @@ type Read = Result<Version, VersionFault>;
 fn read(desk: &Desk, out: &mut String, rest: &str) -> Result<(), Stop> {
     let text = desk.word(rest)?;
     match Version::parse(desk.alloc, text.as_str()) {
-        Ok(version) => put_version(out, &version.copy(desk.alloc)?)?,
-        Err(fault) => put_fault(out, fault)?,
+        Ok(version) => reply(out, version.copy(desk.alloc)?),
+        Err(fault) => reply(out, fault),
     }
-    Ok(())
 }
 
 fn two(desk: &Desk, rest: &str) -> Result<(Read, Read), Stop> {
@@ -77,11 +81,7 @@ const RELATIONS: [Relation; 5] = [
 ];
 
 /// The relations in which the first version stands to the second.
-fn met(desk: &Desk, out: &mut String, rest: &str) -> Result<(), Stop> {
-    let (first, second) = two(desk, rest)?;
-    let (Ok(a), Ok(b)) = (&first, &second) else {
-        return Err(Stop::NoCall);
-    };
+fn put_met(out: &mut String, a: &Version, b: &Version) -> Result<(), Stop> {
     for relation in RELATIONS {
         if meets(a, relation, b) {
             put(out, &[relation_text(relation), " "])?;
@@ -90,10 +90,18 @@ fn met(desk: &Desk, out: &mut String, rest: &str) -> Result<(), Stop> {
     Ok(())
 }
 
+fn met(desk: &Desk, out: &mut String, rest: &str) -> Result<(), Stop> {
+    let (first, second) = two(desk, rest)?;
+    match (&first, &second) {
+        (Ok(a), Ok(b)) => put_met(out, a, b),
+        _ => Err(Stop::NoCall),
+    }
+}
+
 fn texts(desk: &Desk, out: &mut String, rest: &str) -> Result<(), Stop> {
     let (first, second) = two(desk, rest)?;
-    let (Ok(a), Ok(b)) = (&first, &second) else {
-        return Err(Stop::NoCall);
-    };
-    put_order(out, a.is(b), a.text_order(b))
+    match (&first, &second) {
+        (Ok(a), Ok(b)) => put_order(out, a.is(b), a.text_order(b)),
+        _ => Err(Stop::NoCall),
+    }
 }

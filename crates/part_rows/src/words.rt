@@ -1,5 +1,6 @@
 //! Calls of command_words.
 
+use crate::answers::{Answer, reply};
 use crate::commands::put_command;
 use command_words::{Command, WordFault, Words, read_words};
 use row_table::{Desk, Stop, put, put_at};
@@ -17,12 +18,24 @@ fn words_of(desk: &Desk, rest: &str) -> Result<Words, Stop> {
     Ok(words)
 }
 
-fn put_commands(out: &mut String, commands: &[Command]) -> Result<(), AllocError> {
-    for command in commands {
-        put_command(out, command)?;
-        put(out, &["\n"])?;
+/// Each command in a line.
+impl Answer for Vec<Command> {
+    fn put(&self, out: &mut String) -> Result<(), AllocError> {
+        for command in self.iter() {
+            put_command(out, command)?;
+            put(out, &["\n"])?;
+        }
+        Ok(())
     }
-    Ok(())
+}
+
+impl Answer for WordFault {
+    fn put(&self, out: &mut String) -> Result<(), AllocError> {
+        match self {
+            WordFault::At { place } => put_at(out, "at ", *place),
+            WordFault::OutOfMemory => out.push_str("out of memory"),
+        }
+    }
 }
 
 pub fn play(desk: &Desk, out: &mut String, call: &str, rest: &str) -> Result<(), Stop> {
@@ -30,10 +43,5 @@ pub fn play(desk: &Desk, out: &mut String, call: &str, rest: &str) -> Result<(),
         return Err(Stop::NoCall);
     };
     let words = words_of(desk, rest)?;
-    match read_words(desk.alloc, &words) {
-        Ok(commands) => put_commands(out, &commands)?,
-        Err(WordFault::At { place }) => put_at(out, "at ", place)?,
-        Err(WordFault::OutOfMemory) => out.push_str("out of memory")?,
-    }
-    Ok(())
+    reply(out, read_words(desk.alloc, &words))
 }
