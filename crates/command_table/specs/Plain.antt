@@ -28,44 +28,64 @@ pub record PlainSettings : Type 0 where
   pub suite : Option Word
   pub codename : Option Word
 
--- a command: its flags in the table's order, and its arguments
+-- the commands of mirrors: their flags in the table's order, and their arguments
+pub data MirrorCommand : Type 0 where
+  mirror_create : (architectures : Option Words) (filter : Option Word) (filter_with_deps : Option Bool) (name archive distribution : Word) (components : Words) → MirrorCommand
+  mirror_update : (name : Word) → MirrorCommand
+  mirror_list : MirrorCommand
+  mirror_show : (with_packages : Option Bool) (name : Word) → MirrorCommand
+  mirror_rename : (from_name to_name : Word) → MirrorCommand
+  mirror_drop : (name : Word) → MirrorCommand
+
+-- those of local repositories
+pub data RepoCommand : Type 0 where
+  repo_create : (comment distribution component : Option Word) (name : Word) → RepoCommand
+  repo_add : (name folder : Word) → RepoCommand
+  repo_list : RepoCommand
+  repo_show : (with_packages : Option Bool) (name : Word) → RepoCommand
+  repo_edit : (comment distribution component : Option Word) (name : Word) → RepoCommand
+  repo_remove : (dry_run : Option Bool) (name : Word) (queries : Words) → RepoCommand
+  repo_copy : (dry_run with_deps : Option Bool) (follow : PlainFollow) (source destination : Word) (queries : Words) → RepoCommand
+  repo_move : (dry_run with_deps : Option Bool) (follow : PlainFollow) (source destination : Word) (queries : Words) → RepoCommand
+  repo_import : (dry_run with_deps : Option Bool) (follow : PlainFollow) (mirror repo : Word) (queries : Words) → RepoCommand
+  repo_rename : (from_name to_name : Word) → RepoCommand
+  repo_drop : (name : Word) → RepoCommand
+
+-- those of snapshots
+pub data SnapshotCommand : Type 0 where
+  snapshot_create : (name : Word) (origin : Origin) → SnapshotCommand
+  snapshot_list : SnapshotCommand
+  snapshot_show : (with_packages : Option Bool) (name : Word) → SnapshotCommand
+  snapshot_filter : (with_deps : Option Bool) (follow : PlainFollow) (source destination : Word) (queries : Words) → SnapshotCommand
+  snapshot_merge : (latest no_remove : Option Bool) (destination : Word) (sources : Words) → SnapshotCommand
+  snapshot_pull : (all_matches dry_run no_deps no_remove : Option Bool) (follow : PlainFollow) (name source destination : Word) (queries : Words) → SnapshotCommand
+  snapshot_search : (with_deps : Option Bool) (follow : PlainFollow) (name query : Word) → SnapshotCommand
+  snapshot_rename : (from_name to_name : Word) → SnapshotCommand
+  snapshot_drop : (name : Word) → SnapshotCommand
+
+-- those of publications
+pub data PublishCommand : Type 0 where
+  publish_snapshot : (settings : PlainSettings) (sources : Words) (prefix : Option Word) → PublishCommand
+  publish_repo : (settings : PlainSettings) (sources : Words) (prefix : Option Word) → PublishCommand
+  publish_list : PublishCommand
+  publish_show : (distribution : Word) (prefix : Option Word) → PublishCommand
+  publish_switch : (components : Option Words) (distribution : Word) (prefix : Option Word) (snapshots : Words) → PublishCommand
+  publish_update : (distribution : Word) (prefix : Option Word) → PublishCommand
+  publish_drop : (distribution : Word) (prefix : Option Word) → PublishCommand
+
+-- those of packages and of the store
+pub data OtherCommand : Type 0 where
+  package_search : (query : Word) → OtherCommand
+  package_show : (query : Word) → OtherCommand
+  db_cleanup : OtherCommand
+
+-- a command, by its family
 pub data PlainCommand : Type 0 where
-  mirror_create : (architectures : Option Words) (filter : Option Word) (filter_with_deps : Option Bool) (name archive distribution : Word) (components : Words) → PlainCommand
-  mirror_update : (name : Word) → PlainCommand
-  mirror_list : PlainCommand
-  mirror_show : (with_packages : Option Bool) (name : Word) → PlainCommand
-  mirror_rename : (from_name to_name : Word) → PlainCommand
-  mirror_drop : (name : Word) → PlainCommand
-  repo_create : (comment distribution component : Option Word) (name : Word) → PlainCommand
-  repo_add : (name folder : Word) → PlainCommand
-  repo_list : PlainCommand
-  repo_show : (with_packages : Option Bool) (name : Word) → PlainCommand
-  repo_edit : (comment distribution component : Option Word) (name : Word) → PlainCommand
-  repo_remove : (dry_run : Option Bool) (name : Word) (queries : Words) → PlainCommand
-  repo_copy : (dry_run with_deps : Option Bool) (follow : PlainFollow) (source destination : Word) (queries : Words) → PlainCommand
-  repo_move : (dry_run with_deps : Option Bool) (follow : PlainFollow) (source destination : Word) (queries : Words) → PlainCommand
-  repo_import : (dry_run with_deps : Option Bool) (follow : PlainFollow) (mirror repo : Word) (queries : Words) → PlainCommand
-  repo_rename : (from_name to_name : Word) → PlainCommand
-  repo_drop : (name : Word) → PlainCommand
-  snapshot_create : (name : Word) (origin : Origin) → PlainCommand
-  snapshot_list : PlainCommand
-  snapshot_show : (with_packages : Option Bool) (name : Word) → PlainCommand
-  snapshot_filter : (with_deps : Option Bool) (follow : PlainFollow) (source destination : Word) (queries : Words) → PlainCommand
-  snapshot_merge : (latest no_remove : Option Bool) (destination : Word) (sources : Words) → PlainCommand
-  snapshot_pull : (all_matches dry_run no_deps no_remove : Option Bool) (follow : PlainFollow) (name source destination : Word) (queries : Words) → PlainCommand
-  snapshot_search : (with_deps : Option Bool) (follow : PlainFollow) (name query : Word) → PlainCommand
-  snapshot_rename : (from_name to_name : Word) → PlainCommand
-  snapshot_drop : (name : Word) → PlainCommand
-  publish_snapshot : (settings : PlainSettings) (sources : Words) (prefix : Option Word) → PlainCommand
-  publish_repo : (settings : PlainSettings) (sources : Words) (prefix : Option Word) → PlainCommand
-  publish_list : PlainCommand
-  publish_show : (distribution : Word) (prefix : Option Word) → PlainCommand
-  publish_switch : (components : Option Words) (distribution : Word) (prefix : Option Word) (snapshots : Words) → PlainCommand
-  publish_update : (distribution : Word) (prefix : Option Word) → PlainCommand
-  publish_drop : (distribution : Word) (prefix : Option Word) → PlainCommand
-  package_search : (query : Word) → PlainCommand
-  package_show : (query : Word) → PlainCommand
-  db_cleanup : PlainCommand
+  of_mirror : MirrorCommand → PlainCommand
+  of_repo : RepoCommand → PlainCommand
+  of_snapshot : SnapshotCommand → PlainCommand
+  of_publish : PublishCommand → PlainCommand
+  of_other : OtherCommand → PlainCommand
 
 abbrev pub plain_follow : Follow → PlainFollow
 plain_follow f =
@@ -77,41 +97,34 @@ plain_follow f =
 
 -- the command as its clauses see it
 abbrev pub plain : Command → PlainCommand
-plain (c.MirrorCreate architectures filter deps name archive distribution components) =
-    mirror_create (option_map (λ v. v.items) architectures) filter deps name archive distribution
-    components.items
-plain (c.MirrorUpdate name) = mirror_update name
-plain c.MirrorList = mirror_list
-plain (c.MirrorShow packages name) = mirror_show packages name
-plain (c.MirrorRename from to) = mirror_rename from to
-plain (c.MirrorDrop name) = mirror_drop name
-plain (c.RepoCreate comment distribution component name) = repo_create comment distribution component name
-plain (c.RepoAdd name folder) = repo_add name folder
-plain c.RepoList = repo_list
-plain (c.RepoShow packages name) = repo_show packages name
-plain (c.RepoEdit comment distribution component name) = repo_edit comment distribution component name
-plain (c.RepoRemove dry name queries) = repo_remove dry name queries.items
-plain (c.RepoCopy dry deps follow source destination queries) =
-    repo_copy dry deps (plain_follow follow) source destination queries.items
-plain (c.RepoMove dry deps follow source destination queries) =
-    repo_move dry deps (plain_follow follow) source destination queries.items
-plain (c.RepoImport dry deps follow mirror repo queries) =
-    repo_import dry deps (plain_follow follow) mirror repo queries.items
-plain (c.RepoRename from to) = repo_rename from to
-plain (c.RepoDrop name) = repo_drop name
-plain (c.SnapshotCreate name origin) = snapshot_create name origin
-plain c.SnapshotList = snapshot_list
-plain (c.SnapshotShow packages name) = snapshot_show packages name
-plain (c.SnapshotFilter deps follow source destination queries) =
-    snapshot_filter deps (plain_follow follow) source destination queries.items
-plain (c.SnapshotMerge latest no_remove destination sources) = snapshot_merge latest no_remove destination sources.items
-plain (c.SnapshotPull all dry no_deps no_remove follow name source destination queries) =
-    snapshot_pull all dry no_deps no_remove (plain_follow follow) name source destination queries.items
-plain (c.SnapshotSearch deps follow name query) = snapshot_search deps (plain_follow follow) name query
-plain (c.SnapshotRename from to) = snapshot_rename from to
-plain (c.SnapshotDrop name) = snapshot_drop name
-plain (c.PublishSnapshot architectures components distribution origin label suite codename sources prefix) =
-    publish_snapshot
+plain (c.MirrorCreate architectures filter deps name archive distribution components) = of_mirror (mirror_create (option_map (λ v. v.items) architectures) filter deps name archive distribution
+    components.items)
+plain (c.MirrorUpdate name) = of_mirror (mirror_update name)
+plain c.MirrorList = of_mirror mirror_list
+plain (c.MirrorShow packages name) = of_mirror (mirror_show packages name)
+plain (c.MirrorRename from to) = of_mirror (mirror_rename from to)
+plain (c.MirrorDrop name) = of_mirror (mirror_drop name)
+plain (c.RepoCreate comment distribution component name) = of_repo (repo_create comment distribution component name)
+plain (c.RepoAdd name folder) = of_repo (repo_add name folder)
+plain c.RepoList = of_repo repo_list
+plain (c.RepoShow packages name) = of_repo (repo_show packages name)
+plain (c.RepoEdit comment distribution component name) = of_repo (repo_edit comment distribution component name)
+plain (c.RepoRemove dry name queries) = of_repo (repo_remove dry name queries.items)
+plain (c.RepoCopy dry deps follow source destination queries) = of_repo (repo_copy dry deps (plain_follow follow) source destination queries.items)
+plain (c.RepoMove dry deps follow source destination queries) = of_repo (repo_move dry deps (plain_follow follow) source destination queries.items)
+plain (c.RepoImport dry deps follow mirror repo queries) = of_repo (repo_import dry deps (plain_follow follow) mirror repo queries.items)
+plain (c.RepoRename from to) = of_repo (repo_rename from to)
+plain (c.RepoDrop name) = of_repo (repo_drop name)
+plain (c.SnapshotCreate name origin) = of_snapshot (snapshot_create name origin)
+plain c.SnapshotList = of_snapshot snapshot_list
+plain (c.SnapshotShow packages name) = of_snapshot (snapshot_show packages name)
+plain (c.SnapshotFilter deps follow source destination queries) = of_snapshot (snapshot_filter deps (plain_follow follow) source destination queries.items)
+plain (c.SnapshotMerge latest no_remove destination sources) = of_snapshot (snapshot_merge latest no_remove destination sources.items)
+plain (c.SnapshotPull all dry no_deps no_remove follow name source destination queries) = of_snapshot (snapshot_pull all dry no_deps no_remove (plain_follow follow) name source destination queries.items)
+plain (c.SnapshotSearch deps follow name query) = of_snapshot (snapshot_search deps (plain_follow follow) name query)
+plain (c.SnapshotRename from to) = of_snapshot (snapshot_rename from to)
+plain (c.SnapshotDrop name) = of_snapshot (snapshot_drop name)
+plain (c.PublishSnapshot architectures components distribution origin label suite codename sources prefix) = of_publish (publish_snapshot
     (record {
       architectures = option_map (λ v. v.items) architectures;
       components = option_map (λ v. v.items) components;
@@ -121,9 +134,8 @@ plain (c.PublishSnapshot architectures components distribution origin label suit
       suite = suite;
       codename = codename;
     })
-    sources.items prefix
-plain (c.PublishRepo architectures components distribution origin label suite codename sources prefix) =
-    publish_repo
+    sources.items prefix)
+plain (c.PublishRepo architectures components distribution origin label suite codename sources prefix) = of_publish (publish_repo
     (record {
       architectures = option_map (λ v. v.items) architectures;
       components = option_map (λ v. v.items) components;
@@ -133,13 +145,12 @@ plain (c.PublishRepo architectures components distribution origin label suite co
       suite = suite;
       codename = codename;
     })
-    sources.items prefix
-plain c.PublishList = publish_list
-plain (c.PublishShow distribution prefix) = publish_show distribution prefix
-plain (c.PublishSwitch components distribution prefix snapshots) =
-    publish_switch (option_map (λ v. v.items) components) distribution prefix snapshots.items
-plain (c.PublishUpdate distribution prefix) = publish_update distribution prefix
-plain (c.PublishDrop distribution prefix) = publish_drop distribution prefix
-plain (c.PackageSearch query) = package_search query
-plain (c.PackageShow query) = package_show query
-plain c.DbCleanup = db_cleanup
+    sources.items prefix)
+plain c.PublishList = of_publish publish_list
+plain (c.PublishShow distribution prefix) = of_publish (publish_show distribution prefix)
+plain (c.PublishSwitch components distribution prefix snapshots) = of_publish (publish_switch (option_map (λ v. v.items) components) distribution prefix snapshots.items)
+plain (c.PublishUpdate distribution prefix) = of_publish (publish_update distribution prefix)
+plain (c.PublishDrop distribution prefix) = of_publish (publish_drop distribution prefix)
+plain (c.PackageSearch query) = of_other (package_search query)
+plain (c.PackageShow query) = of_other (package_show query)
+plain c.DbCleanup = of_other db_cleanup

@@ -3,7 +3,7 @@ use Rattle.std.specs.Prelude.{◌≡◌, ℕ, ◌+◌, ◌-◌, ◌<◌, ◌≤�
 use Rattle.std.specs.Str.{bytes_eq}
 use Rattle.command_table.specs.declared.command.Origin.TheVariants.{Mirror}
 use Rattle.command_words.specs.declared.piece.Piece.{Piece}
-use Rattle.command_table.specs.Plain.{Word, Words, PlainFollow, PlainCommand, mirror_create, mirror_update, mirror_drop, snapshot_create, snapshot_filter, snapshot_pull, snapshot_drop, publish_snapshot, publish_switch, db_cleanup}
+use Rattle.command_table.specs.Plain.{Word, Words, PlainFollow, PlainCommand, of_mirror, of_snapshot, of_publish, of_other, mirror_create, mirror_update, mirror_drop, snapshot_create, snapshot_filter, snapshot_pull, snapshot_drop, publish_snapshot, publish_switch, db_cleanup}
 use Rattle.command_words.specs.Spelled.{spelled, is_command}
 
 -- a command of a list: the index at which its first word would stand, and its words
@@ -53,12 +53,12 @@ no_follow = record { architectures = None; recommends = None; suggests = None }
 -- what `demo` stands for
 abbrev pub demonstration : List PlainCommand
 demonstration =
-    mirror_create None None None (codes "demo") (codes "made") (codes "demo") (codes "main" ∷ [])
-    ∷ mirror_update (codes "demo")
-    ∷ snapshot_create (codes "demo-all") (Mirror (codes "demo"))
-    ∷ snapshot_filter (Some true) no_follow (codes "demo-all") (codes "demo-some") (codes "pkg99" ∷ [])
-    ∷ snapshot_pull None None None None no_follow (codes "demo-some") (codes "demo-all") (codes "demo-pulled") (codes "Name (% pkg1??)" ∷ [])
-    ∷ publish_snapshot (record {
+    of_mirror (mirror_create None None None (codes "demo") (codes "made") (codes "demo") (codes "main" ∷ []))
+    ∷ of_mirror (mirror_update (codes "demo"))
+    ∷ of_snapshot (snapshot_create (codes "demo-all") (Mirror (codes "demo")))
+    ∷ of_snapshot (snapshot_filter (Some true) no_follow (codes "demo-all") (codes "demo-some") (codes "pkg99" ∷ []))
+    ∷ of_snapshot (snapshot_pull None None None None no_follow (codes "demo-some") (codes "demo-all") (codes "demo-pulled") (codes "Name (% pkg1??)" ∷ []))
+    ∷ of_publish (publish_snapshot (record {
       architectures = None;
       components = None;
       distribution = Some (codes "demo");
@@ -66,12 +66,12 @@ demonstration =
       label = None;
       suite = None;
       codename = None;
-    }) (codes "demo-all" ∷ []) (Some (codes "demo"))
-    ∷ publish_switch None (codes "demo") (Some (codes "demo")) (codes "demo-pulled" ∷ [])
-    ∷ publish_switch None (codes "demo") (Some (codes "demo")) (codes "demo-some" ∷ [])
-    ∷ snapshot_drop (codes "demo-all")
-    ∷ mirror_drop (codes "demo")
-    ∷ db_cleanup
+    }) (codes "demo-all" ∷ []) (Some (codes "demo")))
+    ∷ of_publish (publish_switch None (codes "demo") (Some (codes "demo")) (codes "demo-pulled" ∷ []))
+    ∷ of_publish (publish_switch None (codes "demo") (Some (codes "demo")) (codes "demo-some" ∷ []))
+    ∷ of_snapshot (snapshot_drop (codes "demo-all"))
+    ∷ of_mirror (mirror_drop (codes "demo"))
+    ∷ of_other db_cleanup
     ∷ []
 
 abbrev pub is_from_to : ℕ → ℕ → ℕ → Bool

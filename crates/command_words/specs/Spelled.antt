@@ -16,7 +16,7 @@ use Rattle.command_table.specs.declared.table.PublishVerb.{PublishVerb}
 use Rattle.command_table.specs.declared.table.PublishVerb.TheVariants as p
 use Rattle.command_table.specs.declared.table.OtherVerb.{OtherVerb}
 use Rattle.command_table.specs.declared.table.OtherVerb.TheVariants as o
-use Rattle.command_table.specs.Plain.{Word, Words, PlainFollow, PlainSettings, PlainCommand, mirror_create, mirror_update, mirror_list, mirror_show, mirror_rename, mirror_drop, repo_create, repo_add, repo_list, repo_show, repo_edit, repo_remove, repo_copy, repo_move, repo_import, repo_rename, repo_drop, snapshot_create, snapshot_list, snapshot_show, snapshot_filter, snapshot_merge, snapshot_pull, snapshot_search, snapshot_rename, snapshot_drop, publish_snapshot, publish_repo, publish_list, publish_show, publish_switch, publish_update, publish_drop, package_search, package_show, db_cleanup}
+use Rattle.command_table.specs.Plain.{Word, Words, PlainFollow, PlainSettings, MirrorCommand, RepoCommand, SnapshotCommand, PublishCommand, OtherCommand, PlainCommand, of_mirror, of_repo, of_snapshot, of_publish, of_other, mirror_create, mirror_update, mirror_list, mirror_show, mirror_rename, mirror_drop, repo_create, repo_add, repo_list, repo_show, repo_edit, repo_remove, repo_copy, repo_move, repo_import, repo_rename, repo_drop, snapshot_create, snapshot_list, snapshot_show, snapshot_filter, snapshot_merge, snapshot_pull, snapshot_search, snapshot_rename, snapshot_drop, publish_snapshot, publish_repo, publish_list, publish_show, publish_switch, publish_update, publish_drop, package_search, package_show, db_cleanup}
 use Rattle.command_table.specs.Table.{RowRule, table, has_key}
 use Rattle.command_table.specs.Flags.{is_flag, flags_stand, switch_of, text_of, texts_of}
 use Rattle.command_table.specs.Arguments.{arguments_begin, arguments_end}
@@ -60,7 +60,7 @@ origin_of words =
     else Repo (word_at words 3)
 
 -- each command, of its flags and its arguments
-abbrev pub mirror_command : MirrorVerb → Words → Words → PlainCommand
+abbrev pub mirror_command : MirrorVerb → Words → Words → MirrorCommand
 mirror_command m.Create flags words =
     mirror_create (texts_of (codes "architectures") flags) (text_of (codes "filter") flags)
     (switch_of (codes "filter-with-deps") flags) (word_at words 0) (word_at words 1) (word_at words 2)
@@ -71,7 +71,7 @@ mirror_command m.Show flags words = mirror_show (switch_of (codes "with-packages
 mirror_command m.Rename flags words = mirror_rename (word_at words 0) (word_at words 1)
 mirror_command m.Drop flags words = mirror_drop (word_at words 0)
 
-abbrev pub repo_command : RepoVerb → Words → Words → PlainCommand
+abbrev pub repo_command : RepoVerb → Words → Words → RepoCommand
 repo_command r.Create flags words =
     repo_create (text_of (codes "comment") flags) (text_of (codes "distribution") flags)
     (text_of (codes "component") flags) (word_at words 0)
@@ -94,7 +94,7 @@ repo_command r.Import flags words =
 repo_command r.Rename flags words = repo_rename (word_at words 0) (word_at words 1)
 repo_command r.Drop flags words = repo_drop (word_at words 0)
 
-abbrev pub snapshot_command : SnapshotVerb → Words → Words → PlainCommand
+abbrev pub snapshot_command : SnapshotVerb → Words → Words → SnapshotCommand
 snapshot_command s.Create flags words = snapshot_create (word_at words 0) (origin_of words)
 snapshot_command s.List flags words = snapshot_list
 snapshot_command s.Show flags words = snapshot_show (switch_of (codes "with-packages") flags) (word_at words 0)
@@ -114,12 +114,12 @@ snapshot_command s.Rename flags words = snapshot_rename (word_at words 0) (word_
 snapshot_command s.Drop flags words = snapshot_drop (word_at words 0)
 
 -- a switch to n snapshots has a prefix exactly where it has n + 2 arguments
-abbrev pub switch_command : Option Words → ℕ → Words → PlainCommand
+abbrev pub switch_command : Option Words → ℕ → Words → PublishCommand
 switch_command components n words =
     if length words == n + 2 then publish_switch components (word_at words 0) (slice_get words 1)
     (drop 2 words) else publish_switch components (word_at words 0) None (drop 1 words)
 
-abbrev pub publish_command : PublishVerb → Words → Words → PlainCommand
+abbrev pub publish_command : PublishVerb → Words → Words → PublishCommand
 publish_command p.Snapshot flags words =
     publish_snapshot (settings_of flags) (take (components_len flags) words)
     (slice_get words (components_len flags))
@@ -132,17 +132,17 @@ publish_command p.Switch flags words = switch_command (texts_of (codes "componen
 publish_command p.Update flags words = publish_update (word_at words 0) (slice_get words 1)
 publish_command p.Drop flags words = publish_drop (word_at words 0) (slice_get words 1)
 
-abbrev pub other_command : OtherVerb → Words → PlainCommand
+abbrev pub other_command : OtherVerb → Words → OtherCommand
 other_command o.Search words = package_search (word_at words 0)
 other_command o.Show words = package_show (word_at words 0)
 other_command o.Cleanup words = db_cleanup
 
 unfoldable pub command_of : Kind → Words → Words → PlainCommand
-command_of (kind.Mirror verb) flags words = mirror_command verb flags words
-command_of (kind.Repo verb) flags words = repo_command verb flags words
-command_of (kind.Snapshot verb) flags words = snapshot_command verb flags words
-command_of (kind.Publish verb) flags words = publish_command verb flags words
-command_of (kind.Other verb) flags words = other_command verb words
+command_of (kind.Mirror verb) flags words = of_mirror (mirror_command verb flags words)
+command_of (kind.Repo verb) flags words = of_repo (repo_command verb flags words)
+command_of (kind.Snapshot verb) flags words = of_snapshot (snapshot_command verb flags words)
+command_of (kind.Publish verb) flags words = of_publish (publish_command verb flags words)
+command_of (kind.Other verb) flags words = of_other (other_command verb words)
 
 -- the flags are the words after the verb up to the first other one
 abbrev pub flags_of : Words → Words

@@ -1,6 +1,6 @@
 //! A command, made of its flags and its arguments.
 ghost use Rattle.std.specs.Prelude.{◌≡◌, ◌+◌, ◌<◌, ◌^◌, ◌≤◌, IfOk, option_map, drop, take, slice_get, length};
-ghost use Rattle.command_table.specs.Plain.{plain, plain_follow};
+ghost use Rattle.command_table.specs.Plain.{plain, plain_follow, of_mirror, of_repo, of_snapshot, of_publish, of_other};
 ghost use Rattle.command_table.specs.declared.table.PublishVerb.TheVariants as publish;
 ghost use Rattle.command_table.specs.declared.table.RepoVerb.TheVariants as repo;
 ghost use Rattle.command_table.specs.declared.table.SnapshotVerb.TheVariants as snapshot;
@@ -60,7 +60,7 @@ fn mirror_command(
     flags: &[Text],
     words: &[Text],
 ) -> Result<Command, AllocError>
-    ensures { IfOk result (λ command. plain command ≡ mirror_command verb flags.now words.now) }
+    ensures { IfOk result (λ command. plain command ≡ of_mirror (mirror_command verb flags.now words.now)) }
 {
     let name = word_at(alloc, words, 0)?;
     match verb {
@@ -88,7 +88,7 @@ fn mirror_command(
 }
 
 fn repo_copy(alloc: Global, flags: &[Text], words: &[Text]) -> Result<Command, AllocError>
-    ensures { IfOk result (λ command. plain command ≡ repo_command repo.Copy flags.now words.now) }
+    ensures { IfOk result (λ command. plain command ≡ of_repo (repo_command repo.Copy flags.now words.now)) }
 {
     Ok(Command::RepoCopy {
         dry_run: switch_of(flags, "dry-run"),
@@ -101,7 +101,7 @@ fn repo_copy(alloc: Global, flags: &[Text], words: &[Text]) -> Result<Command, A
 }
 
 fn repo_move(alloc: Global, flags: &[Text], words: &[Text]) -> Result<Command, AllocError>
-    ensures { IfOk result (λ command. plain command ≡ repo_command repo.Move flags.now words.now) }
+    ensures { IfOk result (λ command. plain command ≡ of_repo (repo_command repo.Move flags.now words.now)) }
 {
     Ok(Command::RepoMove {
         dry_run: switch_of(flags, "dry-run"),
@@ -114,7 +114,7 @@ fn repo_move(alloc: Global, flags: &[Text], words: &[Text]) -> Result<Command, A
 }
 
 fn repo_import(alloc: Global, flags: &[Text], words: &[Text]) -> Result<Command, AllocError>
-    ensures { IfOk result (λ command. plain command ≡ repo_command repo.Import flags.now words.now) }
+    ensures { IfOk result (λ command. plain command ≡ of_repo (repo_command repo.Import flags.now words.now)) }
 {
     Ok(Command::RepoImport {
         dry_run: switch_of(flags, "dry-run"),
@@ -127,7 +127,7 @@ fn repo_import(alloc: Global, flags: &[Text], words: &[Text]) -> Result<Command,
 }
 
 fn repo_create(alloc: Global, flags: &[Text], words: &[Text]) -> Result<Command, AllocError>
-    ensures { IfOk result (λ command. plain command ≡ repo_command repo.Create flags.now words.now) }
+    ensures { IfOk result (λ command. plain command ≡ of_repo (repo_command repo.Create flags.now words.now)) }
 {
     Ok(Command::RepoCreate {
         comment: text_of(alloc, flags, "comment")?,
@@ -138,7 +138,7 @@ fn repo_create(alloc: Global, flags: &[Text], words: &[Text]) -> Result<Command,
 }
 
 fn repo_edit(alloc: Global, flags: &[Text], words: &[Text]) -> Result<Command, AllocError>
-    ensures { IfOk result (λ command. plain command ≡ repo_command repo.Edit flags.now words.now) }
+    ensures { IfOk result (λ command. plain command ≡ of_repo (repo_command repo.Edit flags.now words.now)) }
 {
     Ok(Command::RepoEdit {
         comment: text_of(alloc, flags, "comment")?,
@@ -154,7 +154,7 @@ fn repo_command(
     flags: &[Text],
     words: &[Text],
 ) -> Result<Command, AllocError>
-    ensures { IfOk result (λ command. plain command ≡ repo_command verb flags.now words.now) }
+    ensures { IfOk result (λ command. plain command ≡ of_repo (repo_command verb flags.now words.now)) }
 {
     let name = word_at(alloc, words, 0)?;
     match verb {
@@ -199,7 +199,7 @@ fn origin_of(alloc: Global, words: &[Text]) -> Result<Origin, AllocError>
 }
 
 fn snapshot_pull(alloc: Global, flags: &[Text], words: &[Text]) -> Result<Command, AllocError>
-    ensures { IfOk result (λ command. plain command ≡ snapshot_command snapshot.Pull flags.now words.now) }
+    ensures { IfOk result (λ command. plain command ≡ of_snapshot (snapshot_command snapshot.Pull flags.now words.now)) }
 {
     Ok(Command::SnapshotPull {
         all_matches: switch_of(flags, "all-matches"),
@@ -220,7 +220,7 @@ fn snapshot_command(
     flags: &[Text],
     words: &[Text],
 ) -> Result<Command, AllocError>
-    ensures { IfOk result (λ command. plain command ≡ snapshot_command verb flags.now words.now) }
+    ensures { IfOk result (λ command. plain command ≡ of_snapshot (snapshot_command verb flags.now words.now)) }
 {
     let name = word_at(alloc, words, 0)?;
     match verb {
@@ -285,7 +285,7 @@ fn words_to(alloc: Global, words: &[Text], n: usize) -> Result<Vec<Text>, AllocE
 
 fn publish_snapshot(alloc: Global, flags: &[Text], words: &[Text]) -> Result<Command, AllocError>
     ensures { IfOk result (λ command. plain command
-        ≡ publish_command publish.Snapshot flags.now words.now) }
+        ≡ of_publish (publish_command publish.Snapshot flags.now words.now)) }
 {
     let count = components_len(alloc, flags)?;
     Ok(Command::PublishSnapshot {
@@ -302,7 +302,7 @@ fn publish_snapshot(alloc: Global, flags: &[Text], words: &[Text]) -> Result<Com
 }
 
 fn publish_repo(alloc: Global, flags: &[Text], words: &[Text]) -> Result<Command, AllocError>
-    ensures { IfOk result (λ command. plain command ≡ publish_command publish.Repo flags.now words.now) }
+    ensures { IfOk result (λ command. plain command ≡ of_publish (publish_command publish.Repo flags.now words.now)) }
 {
     let count = components_len(alloc, flags)?;
     Ok(Command::PublishRepo {
@@ -319,7 +319,7 @@ fn publish_repo(alloc: Global, flags: &[Text], words: &[Text]) -> Result<Command
 }
 
 fn publish_switch(alloc: Global, flags: &[Text], words: &[Text]) -> Result<Command, AllocError>
-    ensures { IfOk result (λ command. plain command ≡ publish_command publish.Switch flags.now words.now) }
+    ensures { IfOk result (λ command. plain command ≡ of_publish (publish_command publish.Switch flags.now words.now)) }
 {
     let count = components_len(alloc, flags)?;
     let components = texts_of(alloc, flags, "component")?;
@@ -347,7 +347,7 @@ fn publish_command(
     flags: &[Text],
     words: &[Text],
 ) -> Result<Command, AllocError>
-    ensures { IfOk result (λ command. plain command ≡ publish_command verb flags.now words.now) }
+    ensures { IfOk result (λ command. plain command ≡ of_publish (publish_command verb flags.now words.now)) }
 {
     let distribution = word_at(alloc, words, 0)?;
     let prefix = maybe_at(alloc, words, 1)?;
@@ -372,7 +372,7 @@ fn publish_command(
 }
 
 fn other_command(alloc: Global, verb: OtherVerb, words: &[Text]) -> Result<Command, AllocError>
-    ensures { IfOk result (λ command. plain command ≡ other_command verb words.now) }
+    ensures { IfOk result (λ command. plain command ≡ of_other (other_command verb words.now)) }
 {
     match verb {
         OtherVerb::Search => Ok(Command::PackageSearch {
