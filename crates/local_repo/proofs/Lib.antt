@@ -13,3 +13,6 @@ pub mod EntryLemmas
 pub mod TotalLemmas
 pub mod LawLemmas
 pub mod FaultLemmas
+pub mod JoinLemmas
+pub mod CaseLemmas
+pub mod LawfulLemmas

@@ -1,15 +1,14 @@
 -- The commands of local repositories: what each is in a state.
-use Rattle.std.specs.Prelude.{ℕ, ◌-◌, ◌&&◌, Bool, true, false, List, [], length, Option, Some, None, nat_le, codes, unwrap_or, if◌then◌else◌}
+use Rattle.std.specs.Prelude.{◌≡◌, ℕ, ◌-◌, Bool, false, List, [], length, Option, Some, None, nat_le, codes, unwrap_or, if◌then◌else◌}
 use Rattle.std.specs.Option.{is_some}
-use Rattle.ap_text.specs.Names.{is_name}
-use Rattle.ap_text.specs.Paths.{is_safe_path}
+use Rattle.ap_host.specs.Disk.{Files}
 use Rattle.package_core.specs.Card.{Card}
 use Rattle.package_list.specs.Lists.{union}
 use Rattle.command_table.specs.Plain.{RepoCommand, repo_create, repo_add, repo_list, repo_show}
 use Rattle.machine_state.specs.declared.limit.Limit.TheVariants.{Repos}
 use Rattle.machine_state.specs.declared.limit.Kind.TheVariants as kinds
 use Rattle.machine_state.specs.declared.refusal.Refusal.{Refusal}
-use Rattle.machine_state.specs.declared.refusal.Refusal.TheVariants.{BadName, Exists, Unknown, Limit, NotBuilt}
+use Rattle.machine_state.specs.declared.refusal.Refusal.TheVariants.{Exists, Unknown, Limit, NotBuilt}
 use Rattle.machine_state.specs.declared.arrived.Arrived.{Arrived}
 use Rattle.machine_state.specs.declared.arrived.Arrived.TheVariants as arrivals
 use Rattle.machine_state.specs.declared.repo.Repo.{Repo}
@@ -18,9 +17,11 @@ use Rattle.machine_state.specs.Limits.{limit_number}
 use Rattle.machine_state.specs.State.{repo_cmp, repo_of}
 use Rattle.machine_state.specs.Values.{StateView}
 use Rattle.reply_text.specs.Replies as replies
-use Rattle.step_model.specs.declared.reading.Reading.TheVariants.{Folder}
+use Rattle.step_model.specs.declared.reading.Reading.{Reading}
+use Rattle.step_model.specs.declared.reading.Reading.TheVariants as readings
 use Rattle.step_model.specs.Case.{Case, Came, changes, refuses, or_else, plain_case, unbuilt}
 use Rattle.step_model.specs.Names.{bad_name, bad_folder}
+use Rattle.local_repo.specs.Answers.{IsArrival}
 use Rattle.local_repo.specs.Arrival.{list_of}
 use Rattle.local_repo.specs.Fits.{added}
 
@@ -65,9 +66,15 @@ repo_case state (repo_add name folder) =
       early = or_else (bad_name name) (or_else (bad_folder folder) (unknown state.repos name));
       conditions = [];
       late = None;
-      reads = Folder name folder;
+      reads = readings.Folder name folder;
       comes = taken_in state name;
     }
 repo_case state repo_list = plain_case None (changes (replies.repo_list state.repos) state)
 repo_case state (repo_show packages name) = plain_case (or_else (bad_name name) (unknown state.repos name)) (shown state name (unwrap_or packages false) (repo_of name state.repos))
 repo_case state command = unbuilt
+
+-- what may arrive where this is read: of an inbox that tells its files what they hold, and of another what fits
+abbrev pub MayArrive : Option Files → StateView → Reading → Arrived → Type 0
+MayArrive inbox state readings.Nothing arrived = arrived ≡ arrivals.Nothing
+MayArrive inbox state (readings.Folder name folder) arrived = IsArrival inbox state name folder arrived
+MayArrive inbox state (readings.Mirror name) arrived = ⊥

@@ -1,4 +1,3 @@
 pub mod StepLemmas
 pub mod LawLemmas
 pub mod QueryLemmas
-pub mod JoinLemmas

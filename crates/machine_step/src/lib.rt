@@ -1,13 +1,10 @@
 //! One step of the machine: what a command comes to in a state.
 #![tactic(auto)]
 
-mod checks;
-mod early;
 mod laws;
 mod needs;
 mod outcome;
 mod queries;
-mod repos;
 mod steps;
 
 pub use laws::laws_of_steps;

@@ -42,6 +42,18 @@ settings_lines repo =
 unfoldable pub repo_show : Repo → Bool → List ℕ
 repo_show repo with_packages = settings_lines repo ++ packages_line (length repo.list) ++ (if with_packages then triple_lines repo.list else [])
 
+-- ` * local [3]`
+unfoldable pub repo_line : Repo → List ℕ
+repo_line repo = line (codes " * " ++ (repo.name ++ (codes " [" ++ (decimal (length repo.list) ++ codes "]"))))
+
+-- a line for each repository, in their order
+unfoldable pub repo_lines : List Repo → List ℕ
+repo_lines repos = flat_map repo_line repos
+
+-- how many repositories there are, and of each its name and how many packages it has
+unfoldable pub repo_list : List Repo → List ℕ
+repo_list repos = line (codes "Repos: " ++ decimal (length repos)) ++ repo_lines repos
+
 -- how many packages were found, and which
 unfoldable pub package_search : List Card → List ℕ
 package_search found = packages_line (length found) ++ triple_lines found

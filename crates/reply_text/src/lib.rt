@@ -9,4 +9,4 @@ mod words;
 
 pub use packages::{package_search, package_show};
 pub use refusals::{refusal_line, usage_line};
-pub use repos::{repo_added, repo_created, repo_show};
+pub use repos::{repo_added, repo_created, repo_list, repo_show};

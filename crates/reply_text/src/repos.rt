@@ -1,13 +1,14 @@
 //! The replies of commands on local repositories.
 ghost use Rattle.std.specs.Prelude.{◌≡◌, ◌++◌, IfOk, OnOk, string_bytes, [], unwrap_or, if◌then◌else◌};
-ghost use Rattle.reply_text.specs.Replies.{repo_created as created, repo_added as added_to, repo_show as shown, settings_lines, triple_lines};
+ghost use Rattle.reply_text.specs.Replies.{repo_created as created, repo_added as added_to, repo_show as shown, repo_line, repo_lines, repo_list as listed, settings_lines, triple_lines};
 
 use crate::put::{put_count, put_line, put_setting, put_triples, whole_line};
 use ap_text::Name;
 use control_stanza::Text;
-use machine_state::Repo;
+use machine_state::{Repo, State};
 use package_list::PackageList;
 use std::alloc::{AllocError, Global};
+use std::fmt::Write;
 
 /// The reply to a repository's making: `Repo <name> created.` Fails only for want of memory.
 #[tactic(auto, unfolding(crate::specs::Replies::repo_created))]
@@ -77,5 +78,38 @@ pub fn repo_show(alloc: Global, repo: &Repo, with_packages: bool) -> Result<Text
     put_settings(&mut out, repo)?;
     put_count(&mut out, repo.list.len())?;
     put_asked(alloc, &mut out, &repo.list, with_packages)?;
+    Text::new(alloc, out.as_str())
+}
+
+#[tactic(auto, unfolding(crate::specs::Replies::repo_line, crate::specs::Words::line), using(std::proofs::Common::append_assoc))]
+fn put_repo(out: &mut String, repo: &Repo) -> Result<(), AllocError>
+    ensures { OnOk result (string_bytes out.new ≡ string_bytes out.old ++ repo_line repo.now) }
+{
+    out.push_str(" * ")?;
+    out.push_str(repo.name.as_str())?;
+    out.push_str(" [")?;
+    write!(out, "{}", repo.list.len())?;
+    out.push_str("]\n")?;
+    Ok(())
+}
+
+#[tactic(auto, unfolding(crate::specs::Replies::repo_lines))]
+fn put_repos(out: &mut String, repos: &[Repo]) -> Result<(), AllocError>
+    ensures { OnOk result (string_bytes out.new ≡ string_bytes out.old ++ repo_lines repos.now) }
+{
+    for repo in repos {
+        put_repo(out, repo)?;
+    }
+    Ok(())
+}
+
+/// The reply of `repo list`: `Repos: <n>`, and then ` * <name> [<packages>]` for each repository in the order of their names.
+/// Fails only for want of memory.
+#[tactic(auto, unfolding(crate::specs::Replies::repo_list, crate::specs::Words::line), using(std::proofs::Common::append_assoc))]
+pub fn repo_list(alloc: Global, state: &State) -> Result<Text, AllocError>
+    ensures { IfOk result (λ text. text ≡ listed state.now.repos) }
+{
+    let mut out = format!(in alloc; "Repos: {}\n", state.repos.len())?;
+    put_repos(&mut out, &state.repos)?;
     Text::new(alloc, out.as_str())
 }

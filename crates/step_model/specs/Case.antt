@@ -1,12 +1,10 @@
 -- A case: what a command is in a state.
-use Rattle.std.specs.Prelude.{◌≡◌, ℕ, suc, List, [], ◌∷◌, ◌++◌, All, Option, Some, None, Result, Ok, Err, if◌then◌else◌}
-use Rattle.std.specs.Option.{is_some}
+use Rattle.std.specs.Prelude.{ℕ, suc, List, [], ◌∷◌, ◌++◌, map, Option, Some, None, Result, Ok, Err}
 use Rattle.query_tree.specs.Tree.{Tree}
 use Rattle.query_grammar.specs.Said.{query_of}
-use Rattle.query_eval.specs.Build.{IsNoPattern}
-use Rattle.query_eval.specs.Conditions.{patterns_of, IsPattern}
+use Rattle.query_eval.specs.Conditions.{patterns_of}
 use Rattle.machine_state.specs.declared.refusal.Refusal.{Refusal}
-use Rattle.machine_state.specs.declared.refusal.Refusal.TheVariants.{NotBuilt, BadQuery, BadPattern, PatternTooLarge}
+use Rattle.machine_state.specs.declared.refusal.Refusal.TheVariants.{NotBuilt, BadQuery}
 use Rattle.machine_state.specs.declared.arrived.Arrived.{Arrived}
 use Rattle.machine_state.specs.Values.{StateView}
 use Rattle.step_model.specs.declared.reading.Reading.{Reading}
@@ -58,21 +56,24 @@ numbered query before [] = []
 numbered query before (text ∷ texts) = record { query = query; test = suc before; text = text } ∷ numbered query (suc before) texts
 
 -- the conditions of these queries, behind so many of them
-abbrev pub conditions_behind : ℕ → List (List ℕ) → List Condition
+abbrev pub conditions_behind : ℕ → List (Result Tree ℕ) → List Condition
 conditions_behind before [] = []
-conditions_behind before (query ∷ queries) = numbered (suc before) 0 (patterns_asked (query_of query)) ++ conditions_behind (suc before) queries
+conditions_behind before (query ∷ queries) = numbered (suc before) 0 (patterns_asked query) ++ conditions_behind (suc before) queries
 
+-- the conditions of the queries of a command
 abbrev pub conditions_of : List (List ℕ) → List Condition
-conditions_of queries = conditions_behind 0 queries
+conditions_of queries = conditions_behind 0 (map query_of queries)
 
+-- the query of this number is none
 abbrev pub bad_query : ℕ → Result Tree ℕ → Option Refusal
 bad_query number (Ok t) = None
 bad_query number (Err place) = Some (BadQuery number place)
 
 -- the first of these queries, behind so many of them, that is none
-abbrev pub bad_behind : ℕ → List (List ℕ) → Option Refusal
+abbrev pub bad_behind : ℕ → List (Result Tree ℕ) → Option Refusal
 bad_behind before [] = None
-bad_behind before (query ∷ queries) = or_else (bad_query (suc before) (query_of query)) (bad_behind (suc before) queries)
+bad_behind before (query ∷ queries) = or_else (bad_query (suc before) query) (bad_behind (suc before) queries)
 
+-- the first of the queries of a command that is none
 abbrev pub bad_queries : List (List ℕ) → Option Refusal
-bad_queries queries = bad_behind 0 queries
+bad_queries queries = bad_behind 0 (map query_of queries)

@@ -1,5 +1,5 @@
 -- What a case has to keep to, so that the steps of all commands do.
-use Rattle.std.specs.Prelude.{◌≡◌, ◌≢◌, ◌⊎◌, ℕ, List, [], All, Option, Some, None, IfSome}
+use Rattle.std.specs.Prelude.{◌≡◌, ◌≢◌, ◌⊎◌, ℕ, List, [], All, None, IfSome}
 use Rattle.std.specs.List.{Contains}
 use Rattle.package_core.specs.Card.{Card}
 use Rattle.machine_state.specs.declared.refusal.Refusal.{Refusal}
@@ -8,7 +8,7 @@ use Rattle.machine_state.specs.declared.arrived.Arrived.{Arrived}
 use Rattle.machine_state.specs.declared.arrived.Arrived.TheVariants as arrivals
 use Rattle.machine_state.specs.State.{Valid}
 use Rattle.machine_state.specs.Values.{StateView}
-use Rattle.step_model.specs.Case.{Case, Came, changes, refuses}
+use Rattle.step_model.specs.Case.{Case, Came, changes, refuses, unbuilt}
 
 -- the packages that arrived
 abbrev pub list_in : Arrived → List Card
@@ -46,3 +46,11 @@ pub record IsLawful (state : StateView) (MayArrive : Arrived → Type 0) (case :
   pub early : IfSome case.early IsOwn
   pub late : IfSome case.late IsOwn
   pub comes : (arrived : Arrived) → MayArrive arrived → IfRefuses (case.comes arrived) (λ refusal. IsOwn refusal ⊎ (arrived ≡ arrivals.Refused refusal))
+
+-- a command that isn't built, or the case of one that is, for which this may arrive
+abbrev pub LawOf : StateView → (Arrived → Type 0) → Case → Type 0
+LawOf state MayArrive case = (case ≡ unbuilt) ⊎ IsLawful state MayArrive case
+
+-- the same where this arrived
+abbrev pub LawFor : StateView → Arrived → Case → Type 0
+LawFor state arrived case = LawOf state (λ a. a ≡ arrived) case

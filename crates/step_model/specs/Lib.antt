@@ -3,4 +3,5 @@ pub mod Names
 pub mod Queries
 pub mod Refuses
 pub mod Steps
+pub mod Answers
 pub mod Lawful

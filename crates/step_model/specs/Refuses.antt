@@ -1,5 +1,5 @@
 -- Why a command is refused before anything is read for it.
-use Rattle.std.specs.Prelude.{◌≡◌, ◌⊎◌, ℕ, List, ◌∷◌, ◌++◌, All, Option, Some, None, if◌then◌else◌}
+use Rattle.std.specs.Prelude.{◌≡◌, ℕ, List, ◌∷◌, ◌++◌, All, Option, Some, None, if◌then◌else◌}
 use Rattle.std.specs.Option.{is_some}
 use Rattle.query_eval.specs.Build.{IsNoPattern}
 use Rattle.query_eval.specs.Conditions.{IsPattern}

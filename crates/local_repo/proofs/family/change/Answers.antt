@@ -1,0 +1,77 @@
+use Rattle.std.proofs.Common.{ap, subst, sym, refl, None, inl, Option, List, ℕ}
+use Rattle.command_table.specs.Plain.{plain, repo_create, repo_add, repo_list, repo_show}
+use Rattle.machine_state.specs.declared.refusal.Refusal.TheVariants.{NotBuilt}
+use Rattle.step_model.specs.Case.{Case}
+use Rattle.step_model.specs.Refuses.{reading}
+use Rattle.step_model.proofs.RefusalLemmas.{refuses_first}
+use Rattle.step_model.proofs.FaultLemmas.{err_map, fault_memory, fault_along, fault_told, ok_along, ok_told}
+use Rattle.local_repo.specs.Cases.{repo_case, MayArrive}
+use Rattle.local_repo.proofs.CaseLemmas.{case_along, other_early}
+use Rattle.local_repo.proofs.family.change.Goals as goal
+
+pub returns-in-RepoCreate-clause-ok : goal.returns-in-RepoCreate-clause-ok
+returns-in-RepoCreate-clause-ok g c = λ k inbox e v m.
+    let state = c.args.state.now in
+    let is = ap plain c.in-RepoCreate.is in
+    ok_told _ _ _ state _ c.args.arrived.now c.create.result
+    (ok_along None state _ _ c.args.arrived.now c.create.result (case_along state c.args.command.now k _ e is) (c.create.ensures.ok _ _ _ _ c.args.arrived.now is v))
+
+pub returns-in-RepoCreate-clause-fault : goal.returns-in-RepoCreate-clause-fault
+returns-in-RepoCreate-clause-fault g c = λ k inbox e v m.
+    let state = c.args.state.now in
+    let is = ap plain c.in-RepoCreate.is in
+    fault_told _ _ _ _ c.args.arrived.now c.create.result
+    (fault_along None _ _ c.args.arrived.now c.create.result (case_along state c.args.command.now k _ e is) (c.create.ensures.fault _ _ _ _ c.args.arrived.now is v))
+
+pub returns-in-RepoShow-clause-ok : goal.returns-in-RepoShow-clause-ok
+returns-in-RepoShow-clause-ok g c = λ k inbox e v m.
+    let state = c.args.state.now in
+    let is = ap plain c.in-RepoShow.is in
+    ok_told _ _ _ state _ c.args.arrived.now c.show.result
+    (ok_along None state _ _ c.args.arrived.now c.show.result (case_along state c.args.command.now k _ e is) (c.show.ensures.ok _ _ c.args.arrived.now is v))
+
+pub returns-in-RepoShow-clause-fault : goal.returns-in-RepoShow-clause-fault
+returns-in-RepoShow-clause-fault g c = λ k inbox e v m.
+    let state = c.args.state.now in
+    let is = ap plain c.in-RepoShow.is in
+    fault_told _ _ _ _ c.args.arrived.now c.show.result
+    (fault_along None _ _ c.args.arrived.now c.show.result (case_along state c.args.command.now k _ e is) (c.show.ensures.fault _ _ c.args.arrived.now is v))
+
+pub returns-in-RepoAdd-clause-ok : goal.returns-in-RepoAdd-clause-ok
+returns-in-RepoAdd-clause-ok g c = λ k inbox e v m.
+    let state = c.args.state.now in
+    let is = ap plain c.in-RepoAdd.is in
+    let same = case_along state c.args.command.now k _ e is in
+    ok_told _ _ _ state _ c.args.arrived.now c.taken.result
+    (ok_along None state _ _ c.args.arrived.now c.taken.result same
+    (c.taken.ensures.ok _ _ inbox is v (subst (λ (q : Case). MayArrive inbox state (reading q) c.args.arrived.now) same m)))
+
+pub returns-in-RepoAdd-clause-fault : goal.returns-in-RepoAdd-clause-fault
+returns-in-RepoAdd-clause-fault g c = λ k inbox e v m.
+    let state = c.args.state.now in
+    let is = ap plain c.in-RepoAdd.is in
+    let same = case_along state c.args.command.now k _ e is in
+    fault_told _ _ _ _ c.args.arrived.now c.taken.result
+    (fault_along None _ _ c.args.arrived.now c.taken.result same
+    (c.taken.ensures.fault _ _ inbox is v (subst (λ (q : Case). MayArrive inbox state (reading q) c.args.arrived.now) same m)))
+
+pub returns-in-RepoAdd-clause-new : goal.returns-in-RepoAdd-clause-new
+returns-in-RepoAdd-clause-new g c = λ k inbox e v m.
+    let state = c.args.state.now in
+    let is = ap plain c.in-RepoAdd.is in
+    let same = case_along state c.args.command.now k _ e is in
+    c.taken.ensures.new _ _ inbox is v (subst (λ (q : Case). MayArrive inbox state (reading q) c.args.arrived.now) same m)
+
+pub returns-in-RepoList-clause-ok : goal.returns-in-RepoList-clause-ok
+returns-in-RepoList-clause-ok g c = λ k inbox e v m.
+    let state = c.args.state.now in
+    ok_told _ _ _ state _ c.args.arrived.now c.list.result
+    (ok_along None state _ _ c.args.arrived.now c.list.result (case_along state c.args.command.now k repo_list e (ap plain c.in-RepoList.is)) (c.list.ensures.ok c.args.arrived.now))
+
+pub returns-in-RepoList-clause-fault : goal.returns-in-RepoList-clause-fault
+returns-in-RepoList-clause-fault g c = λ k inbox e v m. err_map c.list.result _ _ (λ fault h. fault_memory _ fault h) c.list.ensures.fault
+
+pub returns-in_default-clause-fault : goal.returns-in_default-clause-fault
+returns-in_default-clause-fault g c = λ k inbox e v m.
+    let d = c.in_default in
+    (None, tt, inl (refuses_first None _ NotBuilt (other_early c.args.state.now c.args.command.now k e d.not-RepoCreate d.not-RepoAdd d.not-RepoList d.not-RepoShow)))

@@ -1,0 +1,5 @@
+pub mod RefusalLemmas
+pub mod PatternLemmas
+pub mod QueryLemmas
+pub mod StepLemmas
+pub mod FaultLemmas
