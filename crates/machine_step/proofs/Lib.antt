@@ -1,3 +1,6 @@
-pub mod StepLemmas
+pub mod FamilyLemmas
+pub mod AskingLemmas
+pub mod ArrivalLemmas
+pub mod CaseLemmas
 pub mod LawLemmas
-pub mod QueryLemmas
+pub mod StepLaws

@@ -1,4 +1,5 @@
-pub mod Queries
-pub mod Early
+pub mod Family
 pub mod Step
+pub mod Causes
+pub mod Removal
 pub mod Answers

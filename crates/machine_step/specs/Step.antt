@@ -1,6 +1,5 @@
 -- One step of the machine: what a command comes to in a state.
-use Rattle.std.specs.Prelude.{◌≡◌, ℕ, ℤ, List, [], ◌∷◌, Option}
-use Rattle.std.specs.List.{filter}
+use Rattle.std.specs.Prelude.{◌≡◌, ◌≤◌, ℕ, ℤ, List, [], ◌∷◌, Option, None, length}
 use Rattle.ap_host.specs.Disk.{Files}
 use Rattle.package_core.specs.Card.{Card}
 use Rattle.run_model.specs.Run.{Outcome}
@@ -14,12 +13,12 @@ use Rattle.step_model.specs.declared.reading.Reading.TheVariants as readings
 use Rattle.step_model.specs.Case.{Case, changes, unbuilt, bad_queries, conditions_of}
 use Rattle.step_model.specs.Refuses.{reading}
 use Rattle.step_model.specs.Steps as steps
+use Rattle.step_model.specs.Queries.{found_by}
 use Rattle.local_repo.specs.Answers.{IsArrival}
 use Rattle.local_repo.specs.Cases.{repo_case}
 use Rattle.reply_text.specs.Refusals.{refusal_line}
 use Rattle.reply_text.specs.Replies as replies
 use Rattle.query_grammar.specs.Said.{query_of}
-use Rattle.step_model.specs.Queries.{found_by}
 
 -- What a call is given: the files of its inbox, where the inbox tells them, and the moment, in seconds since 1970.
 pub record Given : Type 0 where
@@ -40,7 +39,7 @@ asking state query say =
       comes = λ arrived. changes (say (found_by state.known (query_of query))) state;
     }
 
--- the commands on packages
+-- what each command on packages, or on the store, is in a state
 unfoldable pub other_case : StateView → OtherCommand → Case
 other_case state (package_search query) = asking state query replies.package_search
 other_case state (package_show query) = asking state query replies.package_show
@@ -58,6 +57,12 @@ abbrev pub MayArrive : Given → Option (List ℕ) → StateView → Reading →
 MayArrive given large state readings.Nothing arrived = arrived ≡ arrivals.Nothing
 MayArrive given large state (readings.Folder name folder) arrived = IsArrival given.inbox state name folder arrived
 MayArrive given large state (readings.Mirror name) arrived = ⊥
+
+-- what can be read so far: nothing of a mirror, and of folders those whose path has at most 200 bytes
+abbrev pub IsReadable : Reading → Type 0
+IsReadable readings.Nothing = Unit {0}
+IsReadable (readings.Folder name folder) = length folder ≤ 200
+IsReadable (readings.Mirror name) = ⊥
 
 abbrev pub refused : StateView → Refusal → Outcome StateView Refusal
 refused = steps.refused refusal_line

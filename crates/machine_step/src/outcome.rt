@@ -1,38 +1,11 @@
-//! What a command reads, and what it comes to.
+//! What a command comes to.
 ghost use Rattle.std.specs.Prelude.{◌≡◌, None, Some, IfOk};
 ghost use Rattle.reply_text.specs.Refusals.{refusal_line as line_of};
 
-use ap_text::{Name, SafePath};
 use control_stanza::Text;
 use machine_state::{Refusal, State};
 use reply_text::refusal_line;
 use std::alloc::{AllocError, Global};
-
-/// What is to be read for a command.
-#[derive(Drop)]
-pub enum Reading {
-    /// Nothing.
-    Nothing,
-    /// The archive of the mirror of this name.
-    Mirror(Name),
-    /// A folder, for the repository of this name.
-    Folder(Name, SafePath),
-}
-
-impl Reading {
-    /// The same once more. Fails only for want of memory.
-    pub fn copy(&self, alloc: Global) -> Result<Reading, AllocError>
-        ensures { IfOk result (λ made. made ≡ self.now) }
-    {
-        match self {
-            Reading::Nothing => Ok(Reading::Nothing),
-            Reading::Mirror(name) => Ok(Reading::Mirror(name.copy(alloc)?)),
-            Reading::Folder(name, path) => {
-                Ok(Reading::Folder(name.copy(alloc)?, path.copy(alloc)?))
-            }
-        }
-    }
-}
 
 /// What a command comes to.
 #[derive(Drop)]

@@ -1,54 +1,20 @@
 //! One step.
-ghost use Rattle.std.specs.Prelude.{◌≤◌, ◌≡◌, IfOk, IfErr, IsSome, None, Option};
-ghost use Rattle.command_words.specs.Plain.{plain, package_search as searched, package_show as shown};
+ghost use Rattle.std.specs.Prelude.{◌≤◌, ◌≡◌, ℕ, ℤ, List, IfOk, IfErr, IsSome, None, Option};
+ghost use Rattle.ap_host.specs.Disk.{Files};
+ghost use Rattle.command_words.specs.Plain.{plain};
 ghost use Rattle.machine_state.specs.State.{Valid};
-ghost use Rattle.machine_state.specs.declared.arrived.Arrived.{Arrived as ArrivedOf};
-ghost use Rattle.machine_step.specs.Step.{Given, MayArrive, StepWith, refused};
-ghost use Rattle.machine_step.specs.Answers.{seen, changed, FaultIs, IsNew, Told};
+ghost use Rattle.step_model.specs.Answers.{came, ComesTo, FaultIs, IsNew, IsRefusedFor, KeepsText, Told};
+ghost use Rattle.machine_step.specs.Answers.{seen, KeepsUnlessTold};
+ghost use Rattle.machine_step.specs.Step.{case_of, giving, MayArrive, read_for, StepWith};
 
+use crate::family::{Family, family_of};
 use crate::outcome::Outcome;
-use crate::queries::search;
-use crate::repos::{add, create, show};
+use crate::packages::package_change;
 use command_words::Command;
-use control_stanza::Text;
+use local_repo::change;
 use machine_state::{Arrived, Change, ChangeFault, Refusal, State};
 use query_eval::Patterns;
-use reply_text::{package_search, package_show};
 use std::alloc::{AllocError, Global};
-
-/// `package search`.
-fn search_change<M: Patterns>(
-    alloc: Global,
-    state: &State,
-    query: &Text,
-    patterns: &mut M,
-) -> Result<Change, ChangeFault>
-    ensures ok { (arrived : ArrivedOf) → IfOk result (λ change. Told (M.refusals patterns.old) (M.refusals patterns.new) (M.refused patterns.new) (λ large. StepWith large state.now (searched query.now) arrived (changed state.now change))) }
-    ensures fault { (arrived : ArrivedOf) → IfErr result (FaultIs (λ refusal. Told (M.refusals patterns.old) (M.refusals patterns.new) (M.refused patterns.new) (λ large. StepWith large state.now (searched query.now) arrived (refused state.now refusal)))) }
-    ensures new { IfOk result (λ change. IsNew state.now change.state) }
-    ensures never_falls { M.refusals patterns.old ≤ M.refusals patterns.new }
-{
-    let found = search(alloc, state, query, patterns)?;
-    let reply = package_search(alloc, &found)?;
-    Ok(Change { state: None, reply })
-}
-
-/// `package show`.
-fn show_change<M: Patterns>(
-    alloc: Global,
-    state: &State,
-    query: &Text,
-    patterns: &mut M,
-) -> Result<Change, ChangeFault>
-    ensures ok { (arrived : ArrivedOf) → IfOk result (λ change. Told (M.refusals patterns.old) (M.refusals patterns.new) (M.refused patterns.new) (λ large. StepWith large state.now (shown query.now) arrived (changed state.now change))) }
-    ensures fault { (arrived : ArrivedOf) → IfErr result (FaultIs (λ refusal. Told (M.refusals patterns.old) (M.refusals patterns.new) (M.refused patterns.new) (λ large. StepWith large state.now (shown query.now) arrived (refused state.now refusal)))) }
-    ensures new { IfOk result (λ change. IsNew state.now change.state) }
-    ensures never_falls { M.refusals patterns.old ≤ M.refusals patterns.new }
-{
-    let found = search(alloc, state, query, patterns)?;
-    let reply = package_show(alloc, &found)?;
-    Ok(Change { state: None, reply })
-}
 
 /// What the command changes, or why it is refused.
 fn change_of<M: Patterns>(
@@ -58,25 +24,15 @@ fn change_of<M: Patterns>(
     arrived: &Arrived,
     patterns: &mut M,
 ) -> Result<Change, ChangeFault>
-    ensures ok { (given : Given) → Valid state.now → MayArrive given state.now (plain command.now) arrived.now → IfOk result (λ change. Told (M.refusals patterns.old) (M.refusals patterns.new) (M.refused patterns.new) (λ large. StepWith large state.now (plain command.now) arrived.now (changed state.now change))) }
-    ensures fault { (given : Given) → Valid state.now → MayArrive given state.now (plain command.now) arrived.now → IfErr result (FaultIs (λ refusal. Told (M.refusals patterns.old) (M.refusals patterns.new) (M.refused patterns.new) (λ large. StepWith large state.now (plain command.now) arrived.now (refused state.now refusal)))) }
-    ensures new { (given : Given) → Valid state.now → MayArrive given state.now (plain command.now) arrived.now → IfOk result (λ change. IsNew state.now change.state) }
+    ensures ok { (now : ℤ) (inbox : Option Files) (large : Option (List ℕ)) → Valid state.now → MayArrive (giving inbox now) large state.now (read_for now state.now (plain command.now)) arrived.now → IfOk result (λ change. Told (M.refusals patterns.old) (M.refusals patterns.new) (M.refused patterns.new) (λ large. ComesTo large (case_of now state.now (plain command.now)) arrived.now (came state.now change))) }
+    ensures fault { (now : ℤ) (inbox : Option Files) (large : Option (List ℕ)) → Valid state.now → MayArrive (giving inbox now) large state.now (read_for now state.now (plain command.now)) arrived.now → IfErr result (FaultIs (λ refusal. Told (M.refusals patterns.old) (M.refusals patterns.new) (M.refused patterns.new) (λ large. IsRefusedFor large (case_of now state.now (plain command.now)) arrived.now refusal))) }
+    ensures new { (now : ℤ) (inbox : Option Files) (large : Option (List ℕ)) → Valid state.now → MayArrive (giving inbox now) large state.now (read_for now state.now (plain command.now)) arrived.now → IfOk result (λ change. IsNew state.now change.state) }
     ensures never_falls { M.refusals patterns.old ≤ M.refusals patterns.new }
+    ensures kept { KeepsText (M.refused patterns.old) (M.refused patterns.new) result }
 {
-    match command {
-        Command::RepoCreate {
-            comment,
-            distribution,
-            component,
-            name,
-        } => create(alloc, state, comment, distribution, component, name),
-        Command::RepoAdd { name, folder } => add(alloc, state, name, folder, arrived),
-        Command::RepoShow {
-            with_packages,
-            name,
-        } => show(alloc, state, with_packages, name),
-        Command::PackageSearch { query } => search_change(alloc, state, query, patterns),
-        Command::PackageShow { query } => show_change(alloc, state, query, patterns),
+    match family_of(command) {
+        Family::Repo => change(alloc, state, command, arrived, patterns),
+        Family::Other => package_change(alloc, state, command, patterns),
         _ => Err(ChangeFault::Refused(Refusal::NotBuilt)),
     }
 }
@@ -90,15 +46,17 @@ pub fn step<M: Patterns>(
     state: &State,
     command: &Command,
     arrived: Arrived,
-    _now: i64,
+    now: i64,
     patterns: &mut M,
 ) -> Result<Outcome, AllocError>
-    ensures step { (given : Given) → Valid state.now → MayArrive given state.now (plain command.now) arrived → IfOk result (λ outcome. Told (M.refusals patterns.old) (M.refusals patterns.new) (M.refused patterns.new) (λ large. StepWith large state.now (plain command.now) arrived (seen state.now outcome))) }
+    ensures step { (inbox : Option Files) (large : Option (List ℕ)) → Valid state.now → MayArrive (giving inbox now) large state.now (read_for now state.now (plain command.now)) arrived → IfOk result (λ outcome. Told (M.refusals patterns.old) (M.refusals patterns.new) (M.refused patterns.new) (λ large. StepWith now large state.now (plain command.now) arrived (seen state.now outcome))) }
     // A state is new only where it is another one.
-    ensures changed { (given : Given) → Valid state.now → MayArrive given state.now (plain command.now) arrived → IfOk result (λ outcome. IsNew state.now outcome.state) }
+    ensures changed { (inbox : Option Files) (large : Option (List ℕ)) → Valid state.now → MayArrive (giving inbox now) large state.now (read_for now state.now (plain command.now)) arrived → IfOk result (λ outcome. IsNew state.now outcome.state) }
     // A refused command leaves the state as it was.
     ensures kept { IfOk result (λ outcome. IsSome outcome.refusal → outcome.state ≡ None) }
     ensures never_falls { M.refusals patterns.old ≤ M.refusals patterns.new }
+    // Which text was refused for its size changes only where such a pattern is told.
+    ensures untold { IfOk result (λ outcome. KeepsUnlessTold (M.refused patterns.old) (M.refused patterns.new) outcome.refusal) }
 {
     match change_of(alloc, state, command, &arrived, patterns) {
         Ok(change) => Ok(Outcome {

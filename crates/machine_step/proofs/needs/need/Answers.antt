@@ -1,10 +1,41 @@
-use Rattle.std.proofs.Common.{None}
+use Rattle.std.proofs.Common.{None, Some, sym, ap, ◌∙◌, subst}
+use Rattle.std.specs.Result.{IfOk, IfErr}
 use Rattle.command_words.specs.Plain.{plain}
 use Rattle.machine_state.specs.declared.refusal.Refusal.TheVariants.{NotBuilt}
-use Rattle.machine_step.proofs.StepLemmas.{refuses_first, default_early}
+use Rattle.step_model.specs.Answers.{FaultIs, IsWanted, Told}
+use Rattle.step_model.specs.Case.{Case}
+use Rattle.step_model.specs.Refuses.{Refuses}
+use Rattle.step_model.proofs.RefusalLemmas.{refuses_first}
+use Rattle.machine_step.specs.Step.{case_of}
+use Rattle.machine_step.proofs.FamilyLemmas.{is_repo, is_other, case_of_repo, case_of_other, case_of_rest, keeps_same, none_told}
 use Rattle.machine_step.proofs.needs.need.Goals as goal
 
+pub returns-in-Repo-clause-ok : goal.returns-in-Repo-clause-ok
+returns-in-Repo-clause-ok g c = λ now v.
+    let r = is_repo (plain c.args.command.now) (sym c.family_of.ensures ∙ c.in-Repo.is) in
+    subst (λ (k : Case). IfOk c.needs.result (IsWanted None k)) (case_of_repo now c.args.state.now (plain c.args.command.now) r.0 r.1) (c.needs.ensures.ok r.0 r.1 v)
+
+pub returns-in-Repo-clause-fault : goal.returns-in-Repo-clause-fault
+returns-in-Repo-clause-fault g c = λ now v.
+    let r = is_repo (plain c.args.command.now) (sym c.family_of.ensures ∙ c.in-Repo.is) in
+    none_told _ _ _ (λ large refusal. Refuses large (case_of now c.args.state.now (plain c.args.command.now)) (Some refusal)) c.needs.result
+    (subst (λ (k : Case). IfErr c.needs.result (FaultIs (λ refusal. Refuses None k (Some refusal)))) (case_of_repo now c.args.state.now (plain c.args.command.now) r.0 r.1) (c.needs.ensures.fault r.0 r.1 v))
+
+pub returns-in-Repo-clause-kept : goal.returns-in-Repo-clause-kept
+returns-in-Repo-clause-kept g c = keeps_same _ c.needs.result
+
+pub returns-in-Other-clause-ok : goal.returns-in-Other-clause-ok
+returns-in-Other-clause-ok g c = λ now v.
+    let r = is_other (plain c.args.command.now) (sym c.family_of.ensures ∙ c.in-Other.is) in
+    subst (λ (k : Case). IfOk c.package_needs.result (IsWanted None k)) (case_of_other now c.args.state.now (plain c.args.command.now) r.0 r.1) (c.package_needs.ensures.ok c.args.state.now r.0 r.1)
+
+pub returns-in-Other-clause-fault : goal.returns-in-Other-clause-fault
+returns-in-Other-clause-fault g c = λ now v.
+    let r = is_other (plain c.args.command.now) (sym c.family_of.ensures ∙ c.in-Other.is) in
+    subst (λ (k : Case). IfErr c.package_needs.result (FaultIs (λ refusal. Told (g.M.Patterns.refusals c.args.patterns.now) (g.M.Patterns.refusals c.package_needs.new.patterns) (g.M.Patterns.refused c.package_needs.new.patterns) (λ large. Refuses large k (Some refusal)))))
+    (case_of_other now c.args.state.now (plain c.args.command.now) r.0 r.1) (c.package_needs.ensures.fault c.args.state.now r.0 r.1)
+
 pub returns-in_default-clause-fault : goal.returns-in_default-clause-fault
-returns-in_default-clause-fault g c = λ v.
-    let d = c.in_default in
-    (None, tt, refuses_first None c.args.state.now (plain c.args.command.now) NotBuilt (default_early c.args.state.now c.args.command.now d.not-RepoCreate d.not-RepoAdd d.not-RepoShow d.not-PackageSearch d.not-PackageShow))
+returns-in_default-clause-fault g c = λ now v.
+    let none = case_of_rest now c.args.state.now (plain c.args.command.now) (λ e. c.in_default.not-Repo (c.family_of.ensures ∙ e)) (λ e. c.in_default.not-Other (c.family_of.ensures ∙ e)) in
+    (None, tt, refuses_first None _ NotBuilt (ap (λ (k : Case). k.early) none))

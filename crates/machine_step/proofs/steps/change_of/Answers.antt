@@ -1,44 +1,56 @@
-use Rattle.std.proofs.Common.{ap, subst, None}
-use Rattle.command_words.specs.Plain.{PlainCommand, plain}
+use Rattle.std.proofs.Common.{List, ℕ, ℤ, Option, None, Some, inl, sym, ap, ◌∙◌, subst}
+use Rattle.std.specs.Result.{IfOk, IfErr}
+use Rattle.ap_host.specs.Disk.{Files}
+use Rattle.command_words.specs.Plain.{plain}
 use Rattle.machine_state.specs.declared.refusal.Refusal.TheVariants.{NotBuilt}
-use Rattle.machine_step.specs.Step.{MayArrive}
-use Rattle.machine_step.proofs.StepLemmas.{ok_along, ok_none, fault_along, fault_none, step_first, default_early}
+use Rattle.step_model.specs.Answers.{came, ComesTo, FaultIs, IsRefusedFor, Told}
+use Rattle.step_model.specs.Case.{Case}
+use Rattle.step_model.specs.Refuses.{reading}
+use Rattle.step_model.proofs.RefusalLemmas.{refuses_first}
+use Rattle.local_repo.specs.Cases as repos
+use Rattle.machine_step.specs.Step.{case_of, giving, read_for}
+use Rattle.machine_step.proofs.FamilyLemmas.{is_repo, is_other, case_of_repo, case_of_other, case_of_rest, arrives_repo}
+use Rattle.step_model.proofs.FaultLemmas.{ok_told}
 use Rattle.machine_step.proofs.steps.change_of.Goals as goal
 
-pub returns-in-RepoCreate-clause-ok : goal.returns-in-RepoCreate-clause-ok
-returns-in-RepoCreate-clause-ok g c = λ given v m. ok_none _ _ _ c.args.state.now (plain c.args.command.now) _ c.args.arrived.now c.create.result (ap plain c.in-RepoCreate.is) (c.create.ensures.ok c.args.arrived.now v)
+pub returns-in-Repo-clause-ok : goal.returns-in-Repo-clause-ok
+returns-in-Repo-clause-ok g c = λ now inbox large v may.
+    let s = c.args.state.now in
+    let r = is_repo (plain c.args.command.now) (sym c.family_of.ensures ∙ c.in-Repo.is) in
+    let is = case_of_repo now s (plain c.args.command.now) r.0 r.1 in
+    let own = subst (λ (k : Case). repos.MayArrive inbox s (reading k) c.args.arrived.now) (sym is) (arrives_repo (giving inbox now) large s (read_for now s (plain c.args.command.now)) c.args.arrived.now may) in
+    subst (λ (k : Case). IfOk c.change.result (λ change. Told (g.M.Patterns.refusals c.args.patterns.now) (g.M.Patterns.refusals c.change.new.patterns) (g.M.Patterns.refused c.change.new.patterns) (λ large. ComesTo large k c.args.arrived.now (came s change)))) is (c.change.ensures.ok r.0 inbox r.1 v own)
 
-pub returns-in-RepoCreate-clause-fault : goal.returns-in-RepoCreate-clause-fault
-returns-in-RepoCreate-clause-fault g c = λ given v m. fault_none _ _ _ c.args.state.now (plain c.args.command.now) _ c.args.arrived.now c.create.result (ap plain c.in-RepoCreate.is) (c.create.ensures.fault c.args.arrived.now v)
+pub returns-in-Repo-clause-fault : goal.returns-in-Repo-clause-fault
+returns-in-Repo-clause-fault g c = λ now inbox large v may.
+    let s = c.args.state.now in
+    let r = is_repo (plain c.args.command.now) (sym c.family_of.ensures ∙ c.in-Repo.is) in
+    let is = case_of_repo now s (plain c.args.command.now) r.0 r.1 in
+    let own = subst (λ (k : Case). repos.MayArrive inbox s (reading k) c.args.arrived.now) (sym is) (arrives_repo (giving inbox now) large s (read_for now s (plain c.args.command.now)) c.args.arrived.now may) in
+    subst (λ (k : Case). IfErr c.change.result (FaultIs (λ refusal. Told (g.M.Patterns.refusals c.args.patterns.now) (g.M.Patterns.refusals c.change.new.patterns) (g.M.Patterns.refused c.change.new.patterns) (λ large. IsRefusedFor large k c.args.arrived.now refusal)))) is (c.change.ensures.fault r.0 inbox r.1 v own)
 
-pub returns-in-RepoAdd-clause-ok : goal.returns-in-RepoAdd-clause-ok
-returns-in-RepoAdd-clause-ok g c = λ given v m. ok_none _ _ _ c.args.state.now (plain c.args.command.now) _ c.args.arrived.now c.add.result (ap plain c.in-RepoAdd.is) (c.add.ensures.ok given v (subst (λ (k : PlainCommand). MayArrive given c.args.state.now k c.args.arrived.now) (ap plain c.in-RepoAdd.is) m))
+pub returns-in-Repo-clause-new : goal.returns-in-Repo-clause-new
+returns-in-Repo-clause-new g c = λ now inbox large v may.
+    let s = c.args.state.now in
+    let r = is_repo (plain c.args.command.now) (sym c.family_of.ensures ∙ c.in-Repo.is) in
+    let is = case_of_repo now s (plain c.args.command.now) r.0 r.1 in
+    c.change.ensures.new r.0 inbox r.1 v (subst (λ (k : Case). repos.MayArrive inbox s (reading k) c.args.arrived.now) (sym is) (arrives_repo (giving inbox now) large s (read_for now s (plain c.args.command.now)) c.args.arrived.now may))
 
-pub returns-in-RepoAdd-clause-fault : goal.returns-in-RepoAdd-clause-fault
-returns-in-RepoAdd-clause-fault g c = λ given v m. fault_none _ _ _ c.args.state.now (plain c.args.command.now) _ c.args.arrived.now c.add.result (ap plain c.in-RepoAdd.is) (c.add.ensures.fault given v (subst (λ (k : PlainCommand). MayArrive given c.args.state.now k c.args.arrived.now) (ap plain c.in-RepoAdd.is) m))
+pub returns-in-Other-clause-ok : goal.returns-in-Other-clause-ok
+returns-in-Other-clause-ok g c = λ now inbox large v may.
+    let s = c.args.state.now in
+    let r = is_other (plain c.args.command.now) (sym c.family_of.ensures ∙ c.in-Other.is) in
+    ok_told _ _ _ s _ c.args.arrived.now c.package_change.result
+    (subst (λ (k : Case). IfOk c.package_change.result (λ change. ComesTo None k c.args.arrived.now (came s change))) (case_of_other now s (plain c.args.command.now) r.0 r.1) (c.package_change.ensures.ok r.0 c.args.arrived.now r.1))
 
-pub returns-in-RepoShow-clause-ok : goal.returns-in-RepoShow-clause-ok
-returns-in-RepoShow-clause-ok g c = λ given v m. ok_none _ _ _ c.args.state.now (plain c.args.command.now) _ c.args.arrived.now c.show.result (ap plain c.in-RepoShow.is) (c.show.ensures.ok c.args.arrived.now v)
-
-pub returns-in-RepoShow-clause-fault : goal.returns-in-RepoShow-clause-fault
-returns-in-RepoShow-clause-fault g c = λ given v m. fault_none _ _ _ c.args.state.now (plain c.args.command.now) _ c.args.arrived.now c.show.result (ap plain c.in-RepoShow.is) (c.show.ensures.fault c.args.arrived.now v)
-
-pub returns-in-PackageSearch-clause-ok : goal.returns-in-PackageSearch-clause-ok
-returns-in-PackageSearch-clause-ok g c = λ given v m. ok_along _ _ _ c.args.state.now (plain c.args.command.now) _ c.args.arrived.now c.search_change.result (ap plain c.in-PackageSearch.is) (c.search_change.ensures.ok c.args.arrived.now)
-
-pub returns-in-PackageSearch-clause-fault : goal.returns-in-PackageSearch-clause-fault
-returns-in-PackageSearch-clause-fault g c = λ given v m. fault_along _ _ _ c.args.state.now (plain c.args.command.now) _ c.args.arrived.now c.search_change.result (ap plain c.in-PackageSearch.is) (c.search_change.ensures.fault c.args.arrived.now)
-
-pub returns-in-PackageShow-clause-ok : goal.returns-in-PackageShow-clause-ok
-returns-in-PackageShow-clause-ok g c = λ given v m. ok_along _ _ _ c.args.state.now (plain c.args.command.now) _ c.args.arrived.now c.show_change.result (ap plain c.in-PackageShow.is) (c.show_change.ensures.ok c.args.arrived.now)
-
-pub returns-in-PackageShow-clause-fault : goal.returns-in-PackageShow-clause-fault
-returns-in-PackageShow-clause-fault g c = λ given v m. fault_along _ _ _ c.args.state.now (plain c.args.command.now) _ c.args.arrived.now c.show_change.result (ap plain c.in-PackageShow.is) (c.show_change.ensures.fault c.args.arrived.now)
-
-pub returns-in-RepoAdd-clause-new : goal.returns-in-RepoAdd-clause-new
-returns-in-RepoAdd-clause-new g c = λ given v m. c.add.ensures.new given v (subst (λ (k : PlainCommand). MayArrive given c.args.state.now k c.args.arrived.now) (ap plain c.in-RepoAdd.is) m)
+pub returns-in-Other-clause-fault : goal.returns-in-Other-clause-fault
+returns-in-Other-clause-fault g c = λ now inbox large v may.
+    let s = c.args.state.now in
+    let r = is_other (plain c.args.command.now) (sym c.family_of.ensures ∙ c.in-Other.is) in
+    subst (λ (k : Case). IfErr c.package_change.result (FaultIs (λ refusal. Told (g.M.Patterns.refusals c.args.patterns.now) (g.M.Patterns.refusals c.package_change.new.patterns) (g.M.Patterns.refused c.package_change.new.patterns) (λ large. IsRefusedFor large k c.args.arrived.now refusal))))
+    (case_of_other now s (plain c.args.command.now) r.0 r.1) (c.package_change.ensures.fault r.0 c.args.arrived.now r.1)
 
 pub returns-in_default-clause-fault : goal.returns-in_default-clause-fault
-returns-in_default-clause-fault g c = λ given v m.
-    let d = c.in_default in
-    (None, tt, step_first None c.args.state.now (plain c.args.command.now) c.args.arrived.now NotBuilt (default_early c.args.state.now c.args.command.now d.not-RepoCreate d.not-RepoAdd d.not-RepoShow d.not-PackageSearch d.not-PackageShow))
+returns-in_default-clause-fault g c = λ now inbox large v may.
+    let none = case_of_rest now c.args.state.now (plain c.args.command.now) (λ e. c.in_default.not-Repo (c.family_of.ensures ∙ e)) (λ e. c.in_default.not-Other (c.family_of.ensures ∙ e)) in
+    (None, tt, inl (refuses_first None _ NotBuilt (ap (λ (k : Case). k.early) none)))

@@ -1,0 +1,111 @@
+-- What a command is, by its family.
+use Rattle.std.proofs.Common.{◌≡◌, ℕ, ℤ, List, Option, Some, None, Result, Ok, Err, refl, sym, ap, subst, ◌∙◌}
+use Rattle.std.specs.Result.{IfErr, IsErrAnd}
+use Rattle.command_table.specs.declared.command.Command.{Command}
+use Rattle.command_table.specs.declared.command.Command.TheVariants as commands
+use Rattle.command_words.specs.Plain.{PlainCommand, RepoCommand, OtherCommand, plain, of_mirror, of_repo, of_snapshot, of_publish, of_other, package_search, package_show}
+use Rattle.machine_state.specs.declared.change.ChangeFault.{ChangeFault}
+use Rattle.machine_state.specs.declared.change.ChangeFault.TheVariants as faults
+use Rattle.machine_state.specs.declared.refusal.Refusal.{Refusal}
+use Rattle.machine_state.specs.declared.refusal.Refusal.TheVariants.{PatternTooLarge}
+use Rattle.machine_state.specs.declared.arrived.Arrived.{Arrived}
+use Rattle.machine_state.specs.Values.{StateView}
+use Rattle.reply_text.specs.Replies as replies
+use Rattle.step_model.specs.declared.reading.Reading.{Reading}
+use Rattle.step_model.specs.declared.reading.Reading.TheVariants as readings
+use Rattle.step_model.specs.Answers.{FaultIs, KeepsBut, KeepsText, Told}
+use Rattle.step_model.specs.Case.{Case, unbuilt}
+use Rattle.step_model.proofs.FaultLemmas.{err_map, fault_map}
+use Rattle.local_repo.specs.Cases as repos
+use Rattle.local_repo.specs.Cases.{repo_case}
+use Rattle.machine_step.specs.Answers.{KeepsUnlessTold}
+use Rattle.machine_step.specs.Family.{family}
+use Rattle.machine_step.specs.Step.{Given, MayArrive, asking, case_of, other_case}
+use Rattle.machine_step.specs.declared.family.Family.TheVariants as families
+
+pub is_repo : (c : PlainCommand) → family c ≡ families.Repo → (r : RepoCommand) × (c ≡ of_repo r)
+is_repo (of_repo r) e = (r, refl)
+is_repo (of_mirror r) e = absurd (cc)
+is_repo (of_snapshot r) e = absurd (cc)
+is_repo (of_publish r) e = absurd (cc)
+is_repo (of_other r) e = absurd (cc)
+
+pub is_other : (c : PlainCommand) → family c ≡ families.Other → (r : OtherCommand) × (c ≡ of_other r)
+is_other (of_other r) e = (r, refl)
+is_other (of_mirror r) e = absurd (cc)
+is_other (of_repo r) e = absurd (cc)
+is_other (of_snapshot r) e = absurd (cc)
+is_other (of_publish r) e = absurd (cc)
+
+pub case_of_repo : (now : ℤ) (s : StateView) (c : PlainCommand) (r : RepoCommand) → c ≡ of_repo r → repo_case s r ≡ case_of now s c
+unfolding case_of
+case_of_repo now s c r e = sym (ap (case_of now s) e)
+
+pub case_of_other : (now : ℤ) (s : StateView) (c : PlainCommand) (r : OtherCommand) → c ≡ of_other r → other_case s r ≡ case_of now s c
+unfolding case_of
+case_of_other now s c r e = sym (ap (case_of now s) e)
+
+-- the families of which no command is built
+pub case_of_rest : (now : ℤ) (s : StateView) (c : PlainCommand) → (family c ≡ families.Repo → ⊥) → (family c ≡ families.Other → ⊥) → case_of now s c ≡ unbuilt
+unfolding case_of
+case_of_rest now s (of_mirror c) a b = refl
+case_of_rest now s (of_repo c) a b = absurd (a refl)
+case_of_rest now s (of_snapshot c) a b = refl
+case_of_rest now s (of_publish c) a b = refl
+case_of_rest now s (of_other c) a b = absurd (b refl)
+
+-- what may arrive for a command of repositories
+pub arrives_repo : (given : Given) (large : Option (List ℕ)) (s : StateView) (reading : Reading) (arrived : Arrived) → MayArrive given large s reading arrived → repos.MayArrive given.inbox s reading arrived
+arrives_repo given large s readings.Nothing arrived h = h
+arrives_repo given large s (readings.Folder name folder) arrived h = h
+arrives_repo given large s (readings.Mirror name) arrived h = h
+
+-- which of these commands it is
+abbrev case_in : StateView → PlainCommand → Case
+case_in s (of_other c) = other_case s c
+case_in s c = unbuilt
+
+in_rest : (s : StateView) (command : Command) → ((query : List ℕ) → command ≡ commands.PackageSearch query → ⊥) → ((query : List ℕ) → command ≡ commands.PackageShow query → ⊥) → case_in s (plain command) ≡ unbuilt
+unfolding other_case
+in_rest s (commands.PackageSearch query) a b = absurd (a query refl)
+in_rest s (commands.PackageShow query) a b = absurd (b query refl)
+in_rest s command a b = refl
+
+pub other_rest : (s : StateView) (command : Command) (c : OtherCommand) → plain command ≡ of_other c → ((query : List ℕ) → command ≡ commands.PackageSearch query → ⊥) → ((query : List ℕ) → command ≡ commands.PackageShow query → ⊥) → other_case s c ≡ unbuilt
+other_rest s command c e a b = sym (ap (case_in s) e) ∙ in_rest s command a b
+
+pub case_of_search : (s : StateView) (c : OtherCommand) (query : List ℕ) → of_other c ≡ of_other (package_search query) → asking s query replies.package_search ≡ other_case s c
+unfolding other_case
+case_of_search s c query e = sym (ap (case_in s) e)
+
+pub case_of_show : (s : StateView) (c : OtherCommand) (query : List ℕ) → of_other c ≡ of_other (package_show query) → asking s query replies.package_show ≡ other_case s c
+unfolding other_case
+case_of_show s c query e = sym (ap (case_in s) e)
+
+-- a fault that is told so is told otherwise
+pub told_fault : (old new : ℕ) (refused : Option (List ℕ)) (P Q : Option (List ℕ) → Refusal → Type 0) (fault : ChangeFault) → ((large : Option (List ℕ)) (refusal : Refusal) → P large refusal → Q large refusal)
+    → FaultIs (λ refusal. Told old new refused (λ large. P large refusal)) fault → FaultIs (λ refusal. Told old new refused (λ large. Q large refusal)) fault
+told_fault old new refused P Q fault f h = fault_map (λ refusal. Told old new refused (λ large. P large refusal)) (λ refusal. Told old new refused (λ large. Q large refusal)) fault (λ refusal t. (t.0, t.1, f t.0 refusal t.2)) h
+
+-- what is refused whatever text was too large
+pub none_told : {X : Type 0} (old new : ℕ) (refused : Option (List ℕ)) (P : Option (List ℕ) → Refusal → Type 0) (r : Result X ChangeFault) → IfErr r (FaultIs (P None)) → IfErr r (FaultIs (λ refusal. Told old new refused (λ large. P large refusal)))
+none_told old new refused P r h = err_map r (FaultIs (P None)) (FaultIs (λ refusal. Told old new refused (λ large. P large refusal))) (λ fault e. fault_map (P None) (λ refusal. Told old new refused (λ large. P large refusal)) fault (λ refusal p. (None, tt, p)) e) h
+
+-- the exit of a `?` that hands its fault on
+pub keeps_exit : {X : Type 0} (old new : Option (List ℕ)) (r : Result X ChangeFault) (fault : ChangeFault) → IsErrAnd r (λ e. e ≡ fault) → KeepsBut old new fault → KeepsText old new r
+keeps_exit old new (Ok x) fault h k = absurd h
+keeps_exit old new (Err e) fault h k = subst (KeepsBut old new) (sym h) k
+
+-- a builder that wasn't called has its text
+keeps_but : (refused : Option (List ℕ)) (fault : ChangeFault) → KeepsBut refused refused fault
+keeps_but refused (faults.Refused (PatternTooLarge query test)) = tt
+keeps_but refused fault = refl
+
+pub keeps_same : {X : Type 0} (refused : Option (List ℕ)) (r : Result X ChangeFault) → KeepsText refused refused r
+keeps_same refused (Ok x) = refl
+keeps_same refused (Err fault) = keeps_but refused fault
+
+-- which text was refused for its size changes only where such a pattern is told
+pub keeps_told : (old new : Option (List ℕ)) (refusal : Refusal) → KeepsBut old new (faults.Refused refusal) → KeepsUnlessTold old new (Some refusal)
+keeps_told old new (PatternTooLarge query test) h = tt
+keeps_told old new refusal h = h
