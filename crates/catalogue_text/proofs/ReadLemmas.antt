@@ -17,7 +17,8 @@ use Rattle.machine_state.specs.declared.limit.Limit.TheVariants.{Repos, Packages
 use Rattle.machine_state.specs.declared.repo.Repo.{Repo}
 use Rattle.machine_state.specs.Ascending as names
 use Rattle.machine_state.specs.Limits.{limit_number}
-use Rattle.machine_state.specs.State.{name_cmp, repo_cmp, IsLineText}
+use Rattle.machine_state.specs.Named.{name_cmp}
+use Rattle.machine_state.specs.State.{repo_name, repo_cmp, IsLineText}
 use Rattle.catalogue_text.specs.Lines.{IsLine}
 use Rattle.catalogue_text.specs.Pieces.{Piece, alone, packed, Begins, Takes}
 use Rattle.catalogue_text.specs.Root.{id_of, set_line, known_line, repos_line, name_line, comment_line, distribution_line, component_line, set_pieces, known_pieces, repos_pieces, repo_pieces, last_pieces}
@@ -160,22 +161,22 @@ joins_not known list text id rest place done h sorted f answer l apart a behind 
     true≢false (sym (answer.1 (subst (AllLess package_cmp list) same m.after, ap (clashes list) (sym same) ∙ m.apart)) ∙ f)
 
 -- ---- names
-pub names_by_last : (front : List Repo) (last : Repo) (name : List ℕ) → names.IsAscending repo_cmp (front ++ last ∷ []) → name_cmp last name ≡ Less → NamesBefore (front ++ last ∷ []) name
-names_by_last [] last name a h = all_cons (λ repo. name_cmp repo name ≡ Less) last [] h (all_none (λ repo. name_cmp repo name ≡ Less))
+pub names_by_last : (front : List Repo) (last : Repo) (name : List ℕ) → names.IsAscending repo_cmp (front ++ last ∷ []) → name_cmp repo_name last name ≡ Less → NamesBefore (front ++ last ∷ []) name
+names_by_last [] last name a h = all_cons (λ repo. name_cmp repo_name repo name ≡ Less) last [] h (all_none (λ repo. name_cmp repo_name repo name ≡ Less))
 names_by_last (r ∷ rs) last name a h =
-    all_cons (λ repo. name_cmp repo name ≡ Less) r (rs ++ last ∷ []) (nat_list_cmp_total.trans r.name last.name name (below rs a.0) h) (names_by_last rs last name a.1 h)
+    all_cons (λ repo. name_cmp repo_name repo name ≡ Less) r (rs ++ last ∷ []) (nat_list_cmp_total.trans r.name last.name name (below rs a.0) h) (names_by_last rs last name a.1 h)
   where
-    below : (rs : List Repo) → names.IsBelow repo_cmp r (rs ++ last ∷ []) → name_cmp r last.name ≡ Less
+    below : (rs : List Repo) → names.IsBelow repo_cmp r (rs ++ last ∷ []) → name_cmp repo_name r last.name ≡ Less
     below [] b = b.0
     below (s ∷ rs) b = below rs b.1
 
-last_named : (front : List Repo) (last : Repo) (name : List ℕ) → NamesBefore (front ++ last ∷ []) name → name_cmp last name ≡ Less
+last_named : (front : List Repo) (last : Repo) (name : List ℕ) → NamesBefore (front ++ last ∷ []) name → name_cmp repo_name last name ≡ Less
 last_named [] last name h = h 0 last (omega arith)
-last_named (r ∷ rs) last name h = last_named rs last name (all_tail (λ repo. name_cmp repo name ≡ Less) r (rs ++ last ∷ []) h)
+last_named (r ∷ rs) last name h = last_named rs last name (all_tail (λ repo. name_cmp repo_name repo name ≡ Less) r (rs ++ last ∷ []) h)
 
-pub follows_last : (lt : Bool) (o : Ordering) (done front : List Repo) (last : Repo) (name : List ℕ) → names.IsAscending repo_cmp done → done ≡ front ++ last ∷ [] → lt ≡ is_lt o → o ≡ name_cmp last name → IsTrue lt ↔ NamesBefore done name
+pub follows_last : (lt : Bool) (o : Ordering) (done front : List Repo) (last : Repo) (name : List ℕ) → names.IsAscending repo_cmp done → done ≡ front ++ last ∷ [] → lt ≡ is_lt o → o ≡ name_cmp repo_name last name → IsTrue lt ↔ NamesBefore done name
 follows_last lt o done front last name a e h k = (
-  λ t. subst (λ (l : List Repo). NamesBefore l name) (sym e) (names_by_last front last name (subst (names.IsAscending repo_cmp) e a) (less (name_cmp last name) (ap is_lt (sym k) ∙ sym h ∙ t))),
+  λ t. subst (λ (l : List Repo). NamesBefore l name) (sym e) (names_by_last front last name (subst (names.IsAscending repo_cmp) e a) (less (name_cmp repo_name last name) (ap is_lt (sym k) ∙ sym h ∙ t))),
   λ l. h ∙ ap is_lt (k ∙ last_named front last name (subst (λ (l : List Repo). NamesBefore l name) e l)),
 )
   where

@@ -13,7 +13,7 @@ use Rattle.package_list.specs.Sorted.{AllLess}
 use Rattle.machine_state.specs.declared.limit.Limit.TheVariants.{Repos, Packages, Known}
 use Rattle.machine_state.specs.declared.repo.Repo.{Repo}
 use Rattle.machine_state.specs.Limits.{limit_number}
-use Rattle.machine_state.specs.State.{IsLineText}
+use Rattle.machine_state.specs.State.{IsLineText, empty}
 use Rattle.machine_state.specs.Values.{StateView}
 use Rattle.catalogue_text.specs.Pieces.{Piece, alone, packed}
 use Rattle.catalogue_text.specs.Root.{id_of, blank_and, known_line, repos_line, name_line, comment_line, distribution_line, component_line, set_line, set_pieces, repo_pieces, known_pieces, repos_pieces, last_pieces, root_pieces}
@@ -346,7 +346,7 @@ module _ (known : List Card) where
 
 -- ---- a root
 abbrev pub state_of : List Card → List Repo → StateView
-state_of known repos = record { known = known; repos = repos }
+state_of known repos = record empty { known = known; repos = repos }
 
 abbrev pub FromRepos : List Card → (StateView → List Piece → Type 0) → List Piece → Type 0
 FromRepos known K = ReposPart known (λ repos. LastPart known (λ u. K (state_of known repos)))

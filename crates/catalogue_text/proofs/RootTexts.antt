@@ -20,6 +20,7 @@ use Rattle.machine_state.specs.Ascending as names
 use Rattle.machine_state.specs.Limits.{limit_number}
 use Rattle.machine_state.specs.State.{IsRepo, IsNamedList, IsKnown, Valid, repo_cmp, text_length}
 use Rattle.machine_state.specs.Values.{StateView}
+use Rattle.machine_state.proofs.ValidLemmas.{valid_plain}
 use Rattle.catalogue_text.specs.Lines.{IsPlain, is_ended, line_ends}
 use Rattle.catalogue_text.specs.Pieces.{Piece, alone, packed, package_line, piece_text, Begins, Takes}
 use Rattle.catalogue_text.specs.Root.{id_of, joined, set_pieces, repo_pieces, known_pieces, repos_pieces, last_pieces, root_pieces, root_text}
@@ -53,8 +54,8 @@ pub good_state : (state : StateView) → Valid state → GoodState state
 good_state state v = (
   (v.known.few, each_less [] state.known v.known.sorted),
   (
-    (v.few, each_repo state.known [] state.repos v.repos v.lists v.sorted),
-    (record { files = v.known.files; texts = v.known.texts }, refl),
+    (v.repos.few, each_repo state.known [] state.repos v.repos.each v.repos.lists v.repos.sorted),
+    (record { files = v.known.files; texts = v.known.texts }, λ i. record state { mirrors = sym v.stored.mirrors i; snapshots = sym v.stored.snapshots i; publications = sym v.stored.publications i }),
   ),
 )
 
@@ -81,19 +82,18 @@ module _ (known : List Card) where
   names_each done (x ∷ xs) a e = subst (names.IsAscending repo_cmp) (append_assoc done (x ∷ []) xs) (names_each (done ++ x ∷ []) xs (names_push done x a e.0.name.1) e.1)
 
 pub valid_state : (known : List Card) (repos : List Repo) → All IsWhole known → GoodKnown known → GoodRepos known repos → IsWithinLimits known → Valid (state_of known repos)
-valid_state known repos w k r l = record {
-  known = record {
-    packages = w;
-    sorted = sorted_each (AllLess package_cmp) (λ done x h. h) [] known tt k.1;
-    few = k.0;
-    files = l.files;
-    texts = l.texts;
-  };
-  repos = all_repos known [] repos r.1;
+valid_state known repos w k r l = valid_plain known repos (record {
+  packages = w;
+  sorted = sorted_each (AllLess package_cmp) (λ done x h. h) [] known tt k.1;
+  few = k.0;
+  files = l.files;
+  texts = l.texts;
+}) (record {
+  each = all_repos known [] repos r.1;
   lists = all_lists known [] repos r.1;
   sorted = names_each known [] repos tt r.1;
   few = r.0;
-}
+})
 
 -- ---- the pieces of a valid state are cut out of its text
 abbrev ArePieces : List Piece → Type 0
@@ -135,7 +135,7 @@ root_are : (state : StateView) → Valid state → ArePieces (root_pieces state)
 unfolding root_pieces known_pieces repos_pieces last_pieces
 root_are state v =
     pieces_both (known_pieces state.known) (repos_pieces state.repos ++ last_pieces) (refl, (known_plain (length state.known) (let f = v.known.few in omega arith), known_are state.known v.known.packages))
-    (pieces_both (repos_pieces state.repos) last_pieces (refl, (repos_plain (length state.repos) (let f = v.few in omega arith), repos_are state.known state.repos v.repos v.lists)) (refl, (refl, (refl, tt))))
+    (pieces_both (repos_pieces state.repos) last_pieces (refl, (repos_plain (length state.repos) (let f = v.repos.few in omega arith), repos_are state.known state.repos v.repos.each v.repos.lists)) (refl, (refl, (refl, tt))))
 
 pub takes_root : (state : StateView) → Valid state → Takes (root_text state) (root_pieces state) []
 unfolding root_text

@@ -13,7 +13,8 @@ use Rattle.package_list.specs.Lists.{clash, clashes, has_clash}
 use Rattle.package_list.proofs.Pushes.{less_before, ascending_push}
 use Rattle.machine_state.specs.declared.repo.Repo.{Repo}
 use Rattle.machine_state.specs.Ascending as names
-use Rattle.machine_state.specs.State.{IsKnown, name_cmp, repo_cmp}
+use Rattle.machine_state.specs.Named.{name_cmp}
+use Rattle.machine_state.specs.State.{IsKnown, repo_name, repo_cmp}
 use Rattle.catalogue_text.specs.Grammar.{MayJoin}
 use Rattle.catalogue_text.specs.Reading.{Each}
 
@@ -130,20 +131,20 @@ module _ (known : List Card) where
 
 -- ---- repositories in the order of their names
 abbrev pub NamesBefore : List Repo → List ℕ → Type 0
-NamesBefore done name = All (λ repo. name_cmp repo name ≡ Less) done
+NamesBefore done name = All (λ repo. name_cmp repo_name repo name ≡ Less) done
 
-below_here : (r x : Repo) (rs xs : List Repo) → names.IsBelow repo_cmp r (rs ++ x ∷ xs) → name_cmp r x.name ≡ Less
+below_here : (r x : Repo) (rs xs : List Repo) → names.IsBelow repo_cmp r (rs ++ x ∷ xs) → name_cmp repo_name r x.name ≡ Less
 below_here r x [] xs b = b.0
 below_here r x (s ∷ rs) xs b = below_here r x rs xs b.1
 
 pub names_before : (done : List Repo) (x : Repo) (xs : List Repo) → names.IsAscending repo_cmp (done ++ x ∷ xs) → NamesBefore done x.name
-names_before [] x xs a = all_none (λ repo. name_cmp repo x.name ≡ Less)
-names_before (r ∷ rs) x xs a = all_cons (λ repo. name_cmp repo x.name ≡ Less) r rs (below_here r x rs xs a.0) (names_before rs x xs a.1)
+names_before [] x xs a = all_none (λ repo. name_cmp repo_name repo x.name ≡ Less)
+names_before (r ∷ rs) x xs a = all_cons (λ repo. name_cmp repo_name repo x.name ≡ Less) r rs (below_here r x rs xs a.0) (names_before rs x xs a.1)
 
-below_push : (r x : Repo) (rs : List Repo) → names.IsBelow repo_cmp r rs → name_cmp r x.name ≡ Less → names.IsBelow repo_cmp r (rs ++ x ∷ [])
+below_push : (r x : Repo) (rs : List Repo) → names.IsBelow repo_cmp r rs → name_cmp repo_name r x.name ≡ Less → names.IsBelow repo_cmp r (rs ++ x ∷ [])
 below_push r x [] b h = (h, tt)
 below_push r x (s ∷ rs) b h = (b.0, below_push r x rs b.1 h)
 
 pub names_push : (done : List Repo) (x : Repo) → names.IsAscending repo_cmp done → NamesBefore done x.name → names.IsAscending repo_cmp (done ++ x ∷ [])
 names_push [] x a h = (tt, tt)
-names_push (r ∷ rs) x a h = (below_push r x rs a.0 (h 0 r (omega arith)), names_push rs x a.1 (all_tail (λ repo. name_cmp repo x.name ≡ Less) r rs h))
+names_push (r ∷ rs) x a h = (below_push r x rs a.0 (h 0 r (omega arith)), names_push rs x a.1 (all_tail (λ repo. name_cmp repo_name repo x.name ≡ Less) r rs h))

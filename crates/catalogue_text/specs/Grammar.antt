@@ -10,7 +10,8 @@ use Rattle.package_list.specs.Lists.{clashes}
 use Rattle.machine_state.specs.declared.limit.Limit.TheVariants.{Repos, Packages, Known, Catalogue, File}
 use Rattle.machine_state.specs.declared.repo.Repo.{Repo}
 use Rattle.machine_state.specs.Limits.{limit_number}
-use Rattle.machine_state.specs.State.{IsLineText, IsKnown, name_cmp, text_length}
+use Rattle.machine_state.specs.Named.{name_cmp}
+use Rattle.machine_state.specs.State.{IsLineText, IsKnown, empty, repo_name, text_length}
 use Rattle.machine_state.specs.Values.{StateView}
 use Rattle.catalogue_text.specs.Pieces.{Piece, alone, packed}
 use Rattle.catalogue_text.specs.Root.{id_of, known_line, repos_line, name_line, comment_line, distribution_line, component_line, set_line}
@@ -62,7 +63,7 @@ IsName name = IsTrue (is_name name)
 
 -- a name after those of the repositories before it
 abbrev pub IsNext : List Repo → List ℕ → Type 0
-IsNext before name = IsName name × All (λ repo. name_cmp repo name ≡ Less) before
+IsNext before name = IsName name × All (λ repo. name_cmp repo_name repo name ≡ Less) before
 
 -- a repository whose name comes after those before it
 unfoldable pub NextRepo : List Card → List Repo → (Repo → List Piece → Type 0) → List Piece → Type 0
@@ -93,7 +94,7 @@ ReposPart known Next =
 
 -- a root
 unfoldable pub Root : (StateView → List Piece → Type 0) → List Piece → Type 0
-Root Next = KnownPart (λ known. ReposPart known (λ repos. LastPart known (λ u. Next (record { known = known; repos = repos }))))
+Root Next = KnownPart (λ known. ReposPart known (λ repos. LastPart known (λ u. Next (record empty { known = known; repos = repos }))))
 
 -- these pieces can stand first in a root
 abbrev pub CanStand : List Piece → Type 0

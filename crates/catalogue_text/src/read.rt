@@ -1,6 +1,6 @@
 //! A root text read back.
 ghost use Rattle.std.specs.Prelude.{◌≡◌, ◌↔◌, IsTrue, true, ◌<◌, ◌^◌, ℕ, [], List, length, IfOk, IfErr, MatchResult};
-ghost use Rattle.machine_state.specs.State.{Valid};
+ghost use Rattle.machine_state.specs.State.{Valid, empty};
 ghost use Rattle.catalogue_text.specs.Lines.{is_ended as ended};
 ghost use Rattle.catalogue_text.specs.Root.{root_text as root_of, last_pieces};
 ghost use Rattle.catalogue_text.specs.Grammar.{LastPart, IsWithinLimits};
@@ -12,7 +12,7 @@ use crate::known::{Known, read_known};
 use crate::lines::{after_line, is_ended, line_before};
 use crate::repos::read_repos;
 use crate::stop::Stop;
-use machine_state::State;
+use machine_state::{Repo, State};
 use std::alloc::Global;
 
 /// The text behind the end of a root that has these packages, or how many bytes are left where it stops.
@@ -43,6 +43,16 @@ fn is_at_end(text: &[u8], rest: &[u8]) -> bool
     rest.is_empty() && is_ended(text)
 }
 
+/// The state of these packages and repositories, and nothing more.
+fn state_of(alloc: Global, known: Known, repos: Vec<Repo>) -> State
+    ensures { result ≡ record empty { known = known.list; repos = repos.items } }
+{
+    let mut state = State::empty(alloc);
+    state.known = known.list;
+    state.repos = repos;
+    state
+}
+
 /// The state whose root text the bytes are, or where they stop being one.
 fn read_state(alloc: Global, bytes: &[u8]) -> Result<State, Stop>
     ensures found { IfOk result (λ state. Valid state × (bytes.now ≡ root_of state)) }
@@ -63,10 +73,7 @@ fn read_state(alloc: Global, bytes: &[u8]) -> Result<State, Stop>
     if !is_at_end(bytes, rest) {
         return Err(Stop::Before(rest.len()));
     }
-    Ok(State {
-        known: known.list,
-        repos,
-    })
+    Ok(state_of(alloc, known, repos))
 }
 
 /// The state whose root text the bytes are, or the first line that can't stand there: it has not the form that the lines

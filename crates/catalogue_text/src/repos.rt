@@ -2,7 +2,8 @@
 ghost use Rattle.std.specs.Prelude.{◌≡◌, ℕ, [], List, All, IfOk, IfErr, IsTrue, ◌↔◌};
 ghost use Rattle.std.specs.declared.cmp.Ordering.TheVariants.{Less};
 ghost use Rattle.machine_state.specs.Ascending.{IsAscending};
-ghost use Rattle.machine_state.specs.State.{name_cmp, repo_cmp};
+ghost use Rattle.machine_state.specs.Named.{name_cmp};
+ghost use Rattle.machine_state.specs.State.{repo_name, repo_cmp};
 ghost use Rattle.catalogue_text.specs.Root.{repo_pieces, repos_pieces};
 ghost use Rattle.catalogue_text.specs.Grammar.{Series, NextRepo, ReposPart};
 ghost use Rattle.catalogue_text.specs.Reading.{IfBefore, Stops, ReadsSeries, ReadsPart, Each, GoodRepo, GoodRepos, IsIndexed, IdsApart};
@@ -19,7 +20,7 @@ use std::alloc::Global;
 /// Whether a name comes after those of the repositories before it: after that of the last.
 fn follows(done: &[Repo], name: &Name) -> bool
     requires { IsAscending repo_cmp done.now }
-    ensures { IsTrue result ↔ All (λ repo. name_cmp repo name.now ≡ Less) done.now }
+    ensures { IsTrue result ↔ All (λ repo. name_cmp repo_name repo name.now ≡ Less) done.now }
 {
     match done.split_last() {
         None => true,

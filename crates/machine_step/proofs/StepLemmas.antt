@@ -127,7 +127,7 @@ created_full state comment distribution component name arrived many = rw (full m
     full h = search rules
 
 created_fits : (state : StateView) (comment distribution component : Option (List ℕ)) (name : List ℕ) (arrived : Arrived) → length state.repos < 10000
-    → record { reply = replies.repo_created name; refusal = None; state = record { known = state.known; repos = put repo_cmp (new_repo name) state.repos } } ≡ done state (repo_create comment distribution component name) arrived
+    → record { reply = replies.repo_created name; refusal = None; state = record state { repos = put repo_cmp (new_repo name) state.repos } } ≡ done state (repo_create comment distribution component name) arrived
 unfolding done
 created_fits state comment distribution component name arrived few = rw (fits few) refl
   where
@@ -136,10 +136,10 @@ created_fits state comment distribution component name arrived few = rw (fits fe
 
 -- the change of a repository's making
 abbrev pub MadeChange : StateView → ℕ → List ℕ → Change
-MadeChange state place name = record { state = Some (record { known = state.known; repos = insert state.repos place (new_repo name) }); reply = replies.repo_created name }
+MadeChange state place name = record { state = Some (record state { repos = insert state.repos place (new_repo name) }); reply = replies.repo_created name }
 
 abbrev came_of : StateView → List ℕ → List Repo → Came
-came_of state name repos = record { reply = replies.repo_created name; refusal = None; state = record { known = state.known; repos = repos } }
+came_of state name repos = record { reply = replies.repo_created name; refusal = None; state = record state { repos = repos } }
 
 pub created_step : (state : StateView) (comment distribution component : Option (List ℕ)) (text name : List ℕ) (place : ℕ) (change : Change) (arrived : Arrived)
     → change ≡ MadeChange state place name → name ≡ text → put repo_cmp (new_repo text) state.repos ≡ insert state.repos place (new_repo text)

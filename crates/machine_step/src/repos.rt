@@ -42,7 +42,7 @@ fn new_repo(alloc: Global, name: Name) -> Result<Repo, ChangeFault>
 /// Makes a repository at its place among the others.
 fn make(alloc: Global, state: &State, place: usize, name: Name) -> Result<Change, ChangeFault>
     requires { place ≤ length state.now.repos }
-    ensures same { IfOk result (λ change. change ≡ record { state = Some (record { known = state.now.known; repos = insert state.now.repos place (made name) }); reply = created_line name }) }
+    ensures same { IfOk result (λ change. change ≡ record { state = Some (record state.now { repos = insert state.now.repos place (made name) }); reply = created_line name }) }
     ensures fits { IfErr result IsMemory }
 {
     let reply = repo_created(alloc, &name)?;
@@ -133,7 +133,7 @@ fn state_with(
 {
     let known = joined(alloc, &state.known, list)?;
     let repos = all_with_more(alloc, name, list, &state.repos)?;
-    Ok(State { known, repos })
+    Ok(state.with_repos(alloc, known, repos)?)
 }
 
 /// Adds what arrived to the repository. Where it has all of it the state stays as it was.

@@ -1,3 +1,7 @@
+use Rattle.std.proofs.Common.{◌≡◌, sym, subst}
+use Rattle.machine_state.specs.State.{Valid}
+use Rattle.machine_state.specs.Values.{StateView}
+use Rattle.catalogue_text.specs.Root.{root_text}
 use Rattle.catalogue_text.proofs.ReadLemmas.{if_before}
 use Rattle.catalogue_text.proofs.StateLemmas.{stops_in_known, stops_in_repos, stops_in_last, stops_at_end, found_state}
 use Rattle.catalogue_text.proofs.read.read_state.Goals as goal
@@ -19,4 +23,5 @@ returns-then-not-is_at_end-clause-stops c =
 
 pub returns-clause-found : goal.returns-clause-found
 returns-clause-found c =
-    found_state c.args.bytes.now c.in-Ok.head.1.now c.in-Ok-read_repos.body.1.now c.in-Ok-read_last.rest.now c.in-Ok.head.0.list c.in-Ok-read_repos.body.0.items c.is_at_end.result c.in-Ok.ensures.read c.in-Ok-read_repos.ensures.read c.in-Ok-read_last.ensures c.if-not-is_at_end.false c.is_at_end.ensures
+    subst (λ (state : StateView). Valid state × (c.args.bytes.now ≡ root_text state)) (sym c.state_of.ensures)
+    (found_state c.args.bytes.now c.in-Ok.head.1.now c.in-Ok-read_repos.body.1.now c.in-Ok-read_last.rest.now c.in-Ok.head.0.list c.in-Ok-read_repos.body.0.items c.is_at_end.result c.in-Ok.ensures.read c.in-Ok-read_repos.ensures.read c.in-Ok-read_last.ensures c.if-not-is_at_end.false c.is_at_end.ensures)

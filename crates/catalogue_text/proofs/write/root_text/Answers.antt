@@ -7,7 +7,7 @@ use Rattle.catalogue_text.proofs.write.root_text.Goals as goal
 
 pub returns : goal.returns
 returns c =
-    let state : StateView = record { known = c.state.inside.known; repos = c.state.inside.repos.items } in
+    let state : StateView = record { known = c.state.inside.known; mirrors = c.state.inside.mirrors.items; repos = c.state.inside.repos.items; snapshots = c.state.inside.snapshots.items; publications = c.state.inside.publications.items } in
     let repos = c.in_ok-put_repos.ensures ∙ ap (λ r. string_bytes c.put_known.new.out ++ joined (repos_pieces r)) c.deref.ensures.value in
     if_ok _ _ (λ text e. e ∙ c.as_str.ensures.value ∙ whole_text state (string_bytes c.new-out.result) (string_bytes c.put_known.new.out) (string_bytes c.put_repos.new.out) (string_bytes c.put_last.new.out) c.new-out.ensures.bytes c.in_ok-put_known.ensures repos c.in_ok-put_last.ensures ∙ ap root_text c.state.view_is)
     c.new.result c.new.ensures.same
