@@ -133,7 +133,7 @@ no_item P k d lt = absurd (omega (arith, lt))
 
 -- the state of an empty store is valid
 pub empty_valid : Valid empty
-empty_valid = valid_plain [] [] (record { packages = no_item _; sorted = tt; few = omega arith; files = no_item _; texts = omega arith }) (record { each = no_item _; lists = no_item _; sorted = tt; few = omega arith })
+empty_valid = valid_plain [] [] [] (record { packages = no_item _; sorted = tt; few = omega arith; files = no_item _; texts = omega arith }) (record { each = no_item _; lists = no_item _; sorted = tt; few = omega arith }) (record { each = no_item _; lists = no_item _; sorted = tt; few = omega arith })
 
 -- a store with no file stands for the empty state
 pub empty_open : Open (λ (path : Path). None) empty

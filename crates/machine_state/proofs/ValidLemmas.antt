@@ -1,5 +1,5 @@
 -- States that know more, and have other repositories.
-use Rattle.std.proofs.Common.{◌≡◌, ℕ, List, [], get_or, Option, Some, None, IfSome, All, refl, sym, subst, arith}
+use Rattle.std.proofs.Common.{ℕ, List, [], get_or, Option, Some, None, IfSome, All, refl, sym, subst, arith}
 use Rattle.package_core.specs.Card.{Card}
 use Rattle.machine_state.specs.declared.fetched.Fetched.{Fetched}
 use Rattle.machine_state.specs.declared.repo.Repo.{Repo}
@@ -7,7 +7,7 @@ use Rattle.machine_state.specs.declared.snapshot.Snapshot.{Snapshot}
 use Rattle.machine_state.specs.Lists.{IsKnown, IsNamedList, IsCatalogue}
 use Rattle.machine_state.specs.Mirrors.{MirrorLists, SnapshotLists}
 use Rattle.machine_state.specs.Publications.{GenerationLists, PublicationLists, generations}
-use Rattle.machine_state.specs.State.{Valid, AreRepos, HasSources}
+use Rattle.machine_state.specs.State.{Valid, AreRepos, AreSnapshots, HasSources, empty}
 use Rattle.machine_state.specs.Values.{MirrorView, GenerationView, PublicationView, StateView}
 
 pub all_none : {X : Type 0} (P : X → Type 0) → All P []
@@ -47,17 +47,17 @@ valid_with state known repos v catalogue are grows = record {
   snapshots = record { each = v.snapshots.each; lists = all_so (SnapshotLists state.known) (SnapshotLists known) (snapshot_grows state.known known grows) state.snapshots v.snapshots.lists; sorted = v.snapshots.sorted; few = v.snapshots.few };
   publications = record { each = v.publications.each; lists = all_so (PublicationLists state.known) (PublicationLists known) (publication_grows state.known known grows) state.publications v.publications.lists; sorted = v.publications.sorted; few = v.publications.few };
   sources = subst (All (HasSources (record state { known = known; repos = repos }))) (sym v.stored.publications) (all_none (HasSources (record state { known = known; repos = repos })));
-  stored = record { mirrors = v.stored.mirrors; snapshots = v.stored.snapshots; publications = v.stored.publications };
+  stored = record { mirrors = v.stored.mirrors; publications = v.stored.publications };
 }
 
--- a state of nothing but known packages and repositories
-pub valid_plain : (known : List Card) (repos : List Repo) → IsCatalogue known → AreRepos known repos → Valid (record { known = known; mirrors = []; repos = repos; snapshots = []; publications = [] })
-valid_plain known repos catalogue are = record {
+-- a state of nothing but known packages, repositories and snapshots
+pub valid_plain : (known : List Card) (repos : List Repo) (snapshots : List Snapshot) → IsCatalogue known → AreRepos known repos → AreSnapshots known snapshots → Valid (record empty { known = known; repos = repos; snapshots = snapshots })
+valid_plain known repos snapshots catalogue are frozen = record {
   known = catalogue;
   mirrors = record { each = all_none _; lists = all_none _; sorted = tt; few = omega arith };
   repos = are;
-  snapshots = record { each = all_none _; lists = all_none _; sorted = tt; few = omega arith };
+  snapshots = frozen;
   publications = record { each = all_none _; lists = all_none _; sorted = tt; few = omega arith };
   sources = all_none _;
-  stored = record { mirrors = refl; snapshots = refl; publications = refl };
+  stored = record { mirrors = refl; publications = refl };
 }

@@ -13,12 +13,12 @@ use Rattle.machine_state.specs.declared.repo.Repo.{Repo}
 use Rattle.machine_state.specs.declared.snapshot.Snapshot.{Snapshot}
 use Rattle.machine_state.specs.Limits.{limit_number}
 use Rattle.machine_state.specs.Lists.{KindValid}
-use Rattle.machine_state.specs.Mirrors.{IsMirror, MirrorLists, RepoLists, IsSnapshot, SnapshotLists}
+use Rattle.machine_state.specs.Mirrors.{IsMirror, MirrorLists, RepoLists, SnapshotLists}
 use Rattle.machine_state.specs.Named.{named_cmp, named}
 use Rattle.machine_state.specs.Publications.{IsPublication, PublicationLists}
 use Rattle.machine_state.specs.Values.{MirrorView, PublicationView, StateView}
 pub use Rattle.machine_state.specs.Lists.{IsKnown, IsNamedList, IsCatalogue, text_length}
-pub use Rattle.machine_state.specs.Mirrors.{IsRepo}
+pub use Rattle.machine_state.specs.Mirrors.{IsRepo, IsSnapshot}
 pub use Rattle.machine_state.specs.Texts.{is_line, is_line_byte, IsLineText}
 
 -- ---- what is found
@@ -90,7 +90,6 @@ HasSources state publication = All (λ source. IsTrue (has_source state publicat
 -- this record when its part of the root text is written.
 pub record IsStored (state : StateView) : Type 0 where
   pub mirrors : state.mirrors ≡ []
-  pub snapshots : state.snapshots ≡ []
   pub publications : state.publications ≡ []
 
 -- A valid state: all that is said of its known packages, and of each kind by itself; the sources of publications are there. What
