@@ -8,6 +8,7 @@ use Rattle.package_core.specs.Card.{Card}
 use Rattle.hash_pool.specs.Names.{pool_name}
 use Rattle.machine_state.specs.State.{Valid, empty}
 use Rattle.machine_state.specs.Values.{StateView}
+use Rattle.machine_state.proofs.ValidLemmas.{valid_plain}
 use Rattle.catalogue_text.specs.Root.{root_text}
 use Rattle.catalogue_text.specs.Faults.{TextsApart, IsFirstBadLine}
 use Rattle.catalogue_text.proofs.RootTexts.{one_state}
@@ -121,18 +122,18 @@ looked_err {T = T} card f rcs i rc lt is so_far fault r e w = subst (AreLookedFo
     go HostFault w = tt
     go OutOfMemory w = tt
 
+-- what a look found amiss doesn't depend on what it would have given
+pub looked_on : (T U : Type 0) (f : Files) (list : List Card) (fault : LoadFault) → AreLookedFor {T = T} f list (Err fault) → AreLookedFor {T = U} f list (Err fault)
+looked_on T U f list (Damaged d) h = h
+looked_on T U f list HostFault h = tt
+looked_on T U f list OutOfMemory h = tt
+
 no_item : {X : Type 0} (P : X → Type 0) → All P []
 no_item P k d lt = absurd (omega (arith, lt))
 
 -- the state of an empty store is valid
 pub empty_valid : Valid empty
-empty_valid = record {
-  known = record { packages = no_item _; sorted = tt; few = omega arith; files = no_item _; texts = omega arith };
-  repos = no_item _;
-  lists = no_item _;
-  sorted = tt;
-  few = omega arith;
-}
+empty_valid = valid_plain [] [] [] (record { packages = no_item _; sorted = tt; few = omega arith; files = no_item _; texts = omega arith }) (record { each = no_item _; lists = no_item _; sorted = tt; few = omega arith }) (record { each = no_item _; lists = no_item _; sorted = tt; few = omega arith })
 
 -- a store with no file stands for the empty state
 pub empty_open : Open (λ (path : Path). None) empty

@@ -14,7 +14,7 @@ use Rattle.ap_text.specs.Names.{is_name, is_name_byte, is_component}
 use Rattle.package_core.specs.Card.{Card, package_text}
 use Rattle.machine_state.specs.State.{is_line, is_line_byte, IsLineText}
 use Rattle.catalogue_text.specs.Lines.{IsPlain}
-use Rattle.catalogue_text.specs.Root.{id_of, blank_and, known_line, repos_line, name_line, comment_line, distribution_line, component_line, set_line}
+use Rattle.catalogue_text.specs.Root.{id_of, blank_and, known_line, repos_line, name_line, comment_line, distribution_line, component_line, set_line, snapshots_line, snapshot_line}
 use Rattle.catalogue_text.specs.Grammar.{IsName}
 use Rattle.catalogue_text.proofs.Parts.{IsOther}
 
@@ -93,6 +93,12 @@ known_plain n s = digits_plain n s
 pub repos_plain : (n : ℕ) → n < 2 ^ 64 → IsPlain (repos_line n)
 repos_plain n s = digits_plain n s
 
+pub snapshots_plain : (n : ℕ) → n < 2 ^ 64 → IsPlain (snapshots_line n)
+snapshots_plain n s = digits_plain n s
+
+pub snapshot_plain : (name : List ℕ) → IsName name → IsPlain (snapshot_line name)
+snapshot_plain name h = is_name_plain name h
+
 pub set_plain : (n : ℕ) → n < 2 ^ 64 → IsPlain (set_line n)
 set_plain n s = digits_plain n s
 
@@ -121,6 +127,12 @@ known_other n = refl
 
 pub repos_other : (n : ℕ) → IsOther (repos_line n)
 repos_other n = refl
+
+pub snapshots_other : (n : ℕ) → IsOther (snapshots_line n)
+snapshots_other n = refl
+
+pub snapshot_other : (name : List ℕ) → IsOther (snapshot_line name)
+snapshot_other name = refl
 
 pub set_other : (n : ℕ) → IsOther (set_line n)
 set_other n = refl

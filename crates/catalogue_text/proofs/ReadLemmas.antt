@@ -13,22 +13,24 @@ use Rattle.package_core.specs.Card.{Card}
 use Rattle.package_core.specs.Order.{package_cmp}
 use Rattle.package_list.specs.Sorted.{AllLess, IsAscending}
 use Rattle.package_list.specs.Lists.{clashes}
-use Rattle.machine_state.specs.declared.limit.Limit.TheVariants.{Repos, Packages, Known}
+use Rattle.machine_state.specs.declared.limit.Limit.TheVariants.{Repos, Snapshots, Packages, Known}
 use Rattle.machine_state.specs.declared.repo.Repo.{Repo}
+use Rattle.machine_state.specs.declared.snapshot.Snapshot.{Snapshot}
 use Rattle.machine_state.specs.Ascending as names
 use Rattle.machine_state.specs.Limits.{limit_number}
-use Rattle.machine_state.specs.State.{name_cmp, repo_cmp, IsLineText}
+use Rattle.machine_state.specs.Named.{name_cmp, named_cmp}
+use Rattle.machine_state.specs.State.{repo_name, IsLineText}
 use Rattle.catalogue_text.specs.Lines.{IsLine}
 use Rattle.catalogue_text.specs.Pieces.{Piece, alone, packed, Begins, Takes}
-use Rattle.catalogue_text.specs.Root.{id_of, set_line, known_line, repos_line, name_line, comment_line, distribution_line, component_line, set_pieces, known_pieces, repos_pieces, repo_pieces, last_pieces}
-use Rattle.catalogue_text.specs.Grammar.{IsNext, Line, Series, Count, NextPackage, NextMember, MayJoin, SetPart, NextRepo, KnownPart, ReposPart, LastPart, IsWithinLimits}
+use Rattle.catalogue_text.specs.Root.{id_of, set_line, known_line, repos_line, name_line, comment_line, distribution_line, component_line, snapshots_line, snapshot_line, set_pieces, known_pieces, repos_pieces, repo_pieces, snapshots_pieces, snapshot_pieces, last_pieces}
+use Rattle.catalogue_text.specs.Grammar.{IsNext, Line, Series, Count, NextPackage, NextMember, MayJoin, SetPart, NextRepo, NextSnapshot, KnownPart, ReposPart, SnapshotsPart, LastPart, IsWithinLimits}
 use Rattle.catalogue_text.specs.declared.stop.Stop.{Stop}
 use Rattle.catalogue_text.specs.declared.stop.Stop.TheVariants.{Before, OutOfMemory}
-use Rattle.catalogue_text.specs.Reading.{IfBefore, NoLine, ReadsLine, Stops, Always, Each, ReadsSeries, ReadsPart, GoodSet, GoodRepo, GoodKnown, GoodRepos, PlaceIs, IdsApart, AddsMember}
+use Rattle.catalogue_text.specs.Reading.{IfBefore, NoLine, ReadsLine, Stops, Always, Each, ReadsSeries, ReadsPart, GoodSet, GoodRepo, GoodSnapshot, GoodKnown, GoodRepos, GoodSnapshots, PlaceIs, IdsApart, AddsMember}
 use Rattle.catalogue_text.proofs.LineLemmas.{line_unique, same_line}
 use Rattle.catalogue_text.proofs.Parts.{IsPart, IsOther, takes_both, line_of, stops_line, stops_first, stops_then, stops_as, stops_series, series_part}
-use Rattle.catalogue_text.proofs.RootParts.{Any, package_pieces, package_part, package_told, fixed_part, fixed_told, count_part, count_told, member_pieces, member_part, member_told, repo_part, repo_told, IsDistribution, IsComponent, FromSet, FromComponent, FromDistribution, FromComment, set_of, component_of, distribution_of, comment_of, GoodFromSet, GoodFromComponent, GoodFromDistribution, GoodFromComment, made, set_part, from_set, from_component, from_distribution, from_comment, name_part, name_told, comment_part, comment_told, distribution_part, distribution_told, component_part, component_told, KnownSeries, counted_known, ReposSeries, counted_repos, EndLine, FromPublications, end_part, publications_part}
-use Rattle.catalogue_text.proofs.PlainLemmas.{known_other, repos_other, set_other}
+use Rattle.catalogue_text.proofs.RootParts.{Any, package_pieces, package_part, package_told, fixed_part, fixed_told, count_part, count_told, member_pieces, member_part, member_told, repo_part, repo_told, IsDistribution, IsComponent, FromSet, FromComponent, FromDistribution, FromComment, set_of, component_of, distribution_of, comment_of, GoodFromSet, GoodFromComponent, GoodFromDistribution, GoodFromComment, made, set_part, from_set, from_component, from_distribution, from_comment, name_part, name_told, comment_part, comment_told, distribution_part, distribution_told, component_part, component_told, KnownSeries, counted_known, ReposSeries, counted_repos, EndLine, end_part, snapshot_part, snapshot_told, frozen, FromList, list_of, IsTitle, GoodFromList, title_part, title_told, from_list}
+use Rattle.catalogue_text.proofs.PlainLemmas.{known_other, repos_other, snapshots_other, set_other}
 use Rattle.catalogue_text.proofs.ValidLemmas.{NamesBefore, all_cons, all_tail, all_none, known_at, place_at}
 
 pub not_pushed : (b : Bool) (P Q : Type 0) → b ≡ false → MatchBool b P Q → Q
@@ -84,6 +86,9 @@ stops_packages count text rest xs few g t none = stops_series NextPackage packag
 
 pub stops_members : (known : List Card) → IdsApart known → (count : ℕ) (text rest : List ℕ) (xs : List Card) → length xs < count → Each (MayJoin known) [] xs → Takes text (flat_map member_pieces xs) rest → NoLine id_of (MayJoin known xs) rest → Stops (Series count (NextMember known) []) text (length rest)
 stops_members known apart count text rest xs few g t none = stops_series (NextMember known) member_pieces (MayJoin known) (member_part known) (member_told known apart) count text rest xs (length rest) few g t (stops_line id_of (MayJoin known xs) rest none)
+
+pub stops_snapshots : (known : List Card) → IdsApart known → (count : ℕ) (text rest : List ℕ) (xs : List Snapshot) (left : ℕ) → length xs < count → Each (GoodSnapshot known) [] xs → Takes text (flat_map snapshot_pieces xs) rest → Stops (NextSnapshot known xs) rest left → Stops (Series count (NextSnapshot known) []) text left
+stops_snapshots known apart count text rest xs left few g t s = stops_series (NextSnapshot known) snapshot_pieces (GoodSnapshot known) (snapshot_part known) (λ before. snapshot_told known before apart) count text rest xs left few g t s
 
 pub stops_repos : (known : List Card) → IdsApart known → (count : ℕ) (text rest : List ℕ) (xs : List Repo) (left : ℕ) → length xs < count → Each (GoodRepo known) [] xs → Takes text (flat_map repo_pieces xs) rest → Stops (NextRepo known xs) rest left → Stops (Series count (NextRepo known) []) text left
 stops_repos known apart count text rest xs left few g t s = stops_series (NextRepo known) repo_pieces (GoodRepo known) (repo_part known) (λ before. repo_told known before apart) count text rest xs left few g t s
@@ -160,29 +165,36 @@ joins_not known list text id rest place done h sorted f answer l apart a behind 
     true≢false (sym (answer.1 (subst (AllLess package_cmp list) same m.after, ap (clashes list) (sym same) ∙ m.apart)) ∙ f)
 
 -- ---- names
-pub names_by_last : (front : List Repo) (last : Repo) (name : List ℕ) → names.IsAscending repo_cmp (front ++ last ∷ []) → name_cmp last name ≡ Less → NamesBefore (front ++ last ∷ []) name
-names_by_last [] last name a h = all_cons (λ repo. name_cmp repo name ≡ Less) last [] h (all_none (λ repo. name_cmp repo name ≡ Less))
-names_by_last (r ∷ rs) last name a h =
-    all_cons (λ repo. name_cmp repo name ≡ Less) r (rs ++ last ∷ []) (nat_list_cmp_total.trans r.name last.name name (below rs a.0) h) (names_by_last rs last name a.1 h)
-  where
-    below : (rs : List Repo) → names.IsBelow repo_cmp r (rs ++ last ∷ []) → name_cmp r last.name ≡ Less
-    below [] b = b.0
-    below (s ∷ rs) b = below rs b.1
+module _ {X : Type 0} (name_of : X → List ℕ) where
+  names_by_last : (front : List X) (last : X) (name : List ℕ) → names.IsAscending (named_cmp name_of) (front ++ last ∷ []) → name_cmp name_of last name ≡ Less → NamesBefore name_of (front ++ last ∷ []) name
+  names_by_last [] last name a h = all_cons (λ x. name_cmp name_of x name ≡ Less) last [] h (all_none (λ x. name_cmp name_of x name ≡ Less))
+  names_by_last (r ∷ rs) last name a h =
+      all_cons (λ x. name_cmp name_of x name ≡ Less) r (rs ++ last ∷ []) (nat_list_cmp_total.trans (name_of r) (name_of last) name (below rs a.0) h) (names_by_last rs last name a.1 h)
+    where
+      below : (rs : List X) → names.IsBelow (named_cmp name_of) r (rs ++ last ∷ []) → name_cmp name_of r (name_of last) ≡ Less
+      below [] b = b.0
+      below (s ∷ rs) b = below rs b.1
 
-last_named : (front : List Repo) (last : Repo) (name : List ℕ) → NamesBefore (front ++ last ∷ []) name → name_cmp last name ≡ Less
-last_named [] last name h = h 0 last (omega arith)
-last_named (r ∷ rs) last name h = last_named rs last name (all_tail (λ repo. name_cmp repo name ≡ Less) r (rs ++ last ∷ []) h)
+  last_named : (front : List X) (last : X) (name : List ℕ) → NamesBefore name_of (front ++ last ∷ []) name → name_cmp name_of last name ≡ Less
+  last_named [] last name h = h 0 last (omega arith)
+  last_named (r ∷ rs) last name h = last_named rs last name (all_tail (λ x. name_cmp name_of x name ≡ Less) r (rs ++ last ∷ []) h)
 
-pub follows_last : (lt : Bool) (o : Ordering) (done front : List Repo) (last : Repo) (name : List ℕ) → names.IsAscending repo_cmp done → done ≡ front ++ last ∷ [] → lt ≡ is_lt o → o ≡ name_cmp last name → IsTrue lt ↔ NamesBefore done name
-follows_last lt o done front last name a e h k = (
-  λ t. subst (λ (l : List Repo). NamesBefore l name) (sym e) (names_by_last front last name (subst (names.IsAscending repo_cmp) e a) (less (name_cmp last name) (ap is_lt (sym k) ∙ sym h ∙ t))),
-  λ l. h ∙ ap is_lt (k ∙ last_named front last name (subst (λ (l : List Repo). NamesBefore l name) e l)),
-)
-  where
-    less : (o : Ordering) → is_lt o ≡ true → o ≡ Less
-    less Less h = refl
-    less Equal h = cc
-    less Greater h = cc
+  pub follows_last : (lt : Bool) (o : Ordering) (done front : List X) (last : X) (name : List ℕ) → names.IsAscending (named_cmp name_of) done → done ≡ front ++ last ∷ [] → lt ≡ is_lt o → o ≡ name_cmp name_of last name → IsTrue lt ↔ NamesBefore name_of done name
+  follows_last lt o done front last name a e h k = (
+    λ t. subst (λ (l : List X). NamesBefore name_of l name) (sym e) (names_by_last front last name (subst (names.IsAscending (named_cmp name_of)) e a) (less (name_cmp name_of last name) (ap is_lt (sym k) ∙ sym h ∙ t))),
+    λ l. h ∙ ap is_lt (k ∙ last_named front last name (subst (λ (l : List X). NamesBefore name_of l name) e l)),
+  )
+    where
+      less : (o : Ordering) → is_lt o ≡ true → o ≡ Less
+      less Less h = refl
+      less Equal h = cc
+      less Greater h = cc
+
+  -- a name that doesn't follow is not the next
+  pub not_next : (key : List ℕ) (before : List X) (text rest name : List ℕ) (follows : Bool) → follows ≡ false → (IsTrue follows ↔ NamesBefore name_of before name) → IsLine text (key ++ name) rest → NoLine (λ n. key ++ n) (IsNext name_of before) text
+  not_next key before text rest name follows f h l a behind g m =
+      let same : name ≡ a = append_cancel_left key name a (line_unique text (key ++ name) (key ++ a) rest behind l m).0 in
+      true≢false (sym (h.1 (subst (NamesBefore name_of before) (sym same) g.1)) ∙ f)
 
 -- ---- what a result says
 pub if_ok : {X E : Type 0} (P Q : X → Type 0) → ((x : X) → P x → Q x) → (r : Result X E) → IfOk r P → IfOk r Q
@@ -260,37 +272,46 @@ module _ (known : List Card) where
     takes = (rest, l, (mid, subst (λ (k : ℕ). IsLine rest (repos_line k) mid) (sym r.counted) m, r.takes));
   }
 
-  -- ---- the end
-  pub last_first : (text : List ℕ) → ((behind : List ℕ) → IsLine text (codes "snapshots 0") behind → ⊥) → Stops (LastPart known) text (length text)
-  unfolding LastPart
-  last_first text none = fixed_in (codes "snapshots 0") refl (FromPublications known) _ _ (publications_part known) text none
+  -- ---- the snapshots
+  pub snapshots_count : (text : List ℕ) (most : ℕ) → most ≡ limit_number Snapshots → NoLine snapshots_line (λ n. n ≤ most) text → Stops (SnapshotsPart known) text (length text)
+  unfolding SnapshotsPart
+  snapshots_count text most e none = counted_in (codes "snapshots ") (limit_number Snapshots) snapshots_other (omega arith) (NextSnapshot known) snapshot_pieces (GoodSnapshot known) (snapshot_part known) text most e none
 
-  pub last_second : (text rest : List ℕ) → IsLine text (codes "snapshots 0") rest → ((behind : List ℕ) → IsLine rest (codes "publications 0") behind → ⊥) → Stops (LastPart known) text (length rest)
+  pub snapshots_rest : (text mid : List ℕ) (n most left : ℕ) → most ≡ limit_number Snapshots → n ≤ most → IsLine text (snapshots_line n) mid → Stops (Series n (NextSnapshot known) []) mid left → Stops (SnapshotsPart known) text left
+  unfolding SnapshotsPart
+  snapshots_rest text mid n most left e few m s = counted_up (codes "snapshots ") (limit_number Snapshots) snapshots_other (omega arith) (NextSnapshot known) snapshot_pieces (GoodSnapshot known) (snapshot_part known) text mid n left (omega arith) m s
+
+  pub snapshots_read : (text mid : List ℕ) (n most : ℕ) → most ≡ limit_number Snapshots → n ≤ most → IsLine text (snapshots_line n) mid → (xs : List Snapshot) (behind : List ℕ) → ReadsSeries snapshot_pieces (GoodSnapshot known) n mid xs behind → ReadsPart snapshots_pieces (GoodSnapshots known) text xs behind
+  unfolding snapshots_pieces
+  snapshots_read text mid n most e few m xs behind r = record {
+    good = (let c = r.counted in omega arith, r.good);
+    takes = (mid, subst (λ (k : ℕ). IsLine text (snapshots_line k) mid) (sym r.counted) m, r.takes);
+  }
+
+  -- ---- the end
+  pub last_first : (text : List ℕ) → ((behind : List ℕ) → IsLine text (codes "publications 0") behind → ⊥) → Stops (LastPart known) text (length text)
+  unfolding LastPart
+  last_first text none = fixed_in (codes "publications 0") refl (EndLine known) _ _ (end_part known) text none
+
+  pub last_second : (text rest : List ℕ) → IsLine text (codes "publications 0") rest → ((behind : List ℕ) → IsWithinLimits known → IsLine rest (codes "end") behind → ⊥) → Stops (LastPart known) text (length rest)
   unfolding LastPart
   last_second text rest l none =
-      fixed_up (codes "snapshots 0") refl (FromPublications known) _ _ (publications_part known) text rest (length rest) l
-      (fixed_in (codes "publications 0") refl (EndLine known) _ _ (end_part known) rest none)
+      fixed_up (codes "publications 0") refl (EndLine known) _ _ (end_part known) text rest (length rest) l
+      (stops_line {A = Unit {0}} (λ u. codes "end") (λ u. IsWithinLimits known) rest (λ u behind g k. none behind g k))
 
-  pub last_third : (text rest mid : List ℕ) → IsLine text (codes "snapshots 0") rest → IsLine rest (codes "publications 0") mid → ((behind : List ℕ) → IsWithinLimits known → IsLine mid (codes "end") behind → ⊥) → Stops (LastPart known) text (length mid)
-  unfolding LastPart
-  last_third text rest mid l m none =
-      fixed_up (codes "snapshots 0") refl (FromPublications known) _ _ (publications_part known) text rest (length mid) l
-      (fixed_up (codes "publications 0") refl (EndLine known) _ _ (end_part known) rest mid (length mid) m
-      (stops_line {A = Unit {0}} (λ u. codes "end") (λ u. IsWithinLimits known) mid (λ u behind g k. none behind g k)))
-
-  pub last_read : (text rest mid behind : List ℕ) → IsLine text (codes "snapshots 0") rest → IsLine rest (codes "publications 0") mid → IsLine mid (codes "end") behind → IsWithinLimits known → ReadsPart {A = Unit {0}} (λ u. last_pieces) (λ u. IsWithinLimits known) text tt behind
+  pub last_read : (text rest behind : List ℕ) → IsLine text (codes "publications 0") rest → IsLine rest (codes "end") behind → IsWithinLimits known → ReadsPart {A = Unit {0}} (λ u. last_pieces) (λ u. IsWithinLimits known) text tt behind
   unfolding last_pieces
-  last_read text rest mid behind l m n g = record { good = g; takes = (rest, l, (mid, m, (behind, n, refl))) }
+  last_read text rest behind l m g = record { good = g; takes = (rest, l, (behind, m, refl)) }
 
 -- ---- a repository
 module _ (known : List Card) (before : List Repo) where
-  pub at_name : (text : List ℕ) (left : ℕ) → Stops (Line name_line (IsNext before)) text left → Stops (NextRepo known before) text left
+  pub at_name : (text : List ℕ) (left : ℕ) → Stops (Line name_line (IsNext repo_name before)) text left → Stops (NextRepo known before) text left
   unfolding NextRepo
-  at_name text left s = stops_first (Line name_line (IsNext before)) (FromComment known before) (line_of name_line) (comment_of known before) (IsNext before) (GoodFromComment known before) (λ repo. repo.name) (name_part known before) (from_comment known before) text left s
+  at_name text left s = stops_first (Line name_line (IsNext repo_name before)) (FromComment known before) (line_of name_line) (comment_of known before) (IsNext repo_name before) (GoodFromComment known before) (λ repo. repo.name) (name_part known before) (from_comment known before) text left s
 
-  pub past_name : (text rest : List ℕ) (left : ℕ) (n : List ℕ) → IsNext before n → IsLine text (name_line n) rest → Stops (FromComment known before n) rest left → Stops (NextRepo known before) text left
+  pub past_name : (text rest : List ℕ) (left : ℕ) (n : List ℕ) → IsNext repo_name before n → IsLine text (name_line n) rest → Stops (FromComment known before n) rest left → Stops (NextRepo known before) text left
   unfolding NextRepo
-  past_name text rest left n g l s = stops_then (Line name_line (IsNext before)) (FromComment known before) (line_of name_line) (comment_of known before) (IsNext before) (GoodFromComment known before) (λ repo. repo.name) (name_part known before) (from_comment known before) (name_told known before) text rest left n g (rest, l, refl) s
+  past_name text rest left n g l s = stops_then (Line name_line (IsNext repo_name before)) (FromComment known before) (line_of name_line) (comment_of known before) (IsNext repo_name before) (GoodFromComment known before) (λ repo. repo.name) (name_part known before) (from_comment known before) (name_told known before) text rest left n g (rest, l, refl) s
 
   pub at_comment : (n text : List ℕ) (left : ℕ) → Stops (Line comment_line IsLineText) text left → Stops (FromComment known before n) text left
   at_comment n text left s = stops_first (Line comment_line IsLineText) (FromDistribution known before n) (line_of comment_line) (distribution_of known before) IsLineText (GoodFromDistribution known before n) (λ repo. repo.comment) (comment_part known before) (from_distribution known before n) text left s
@@ -313,7 +334,7 @@ module _ (known : List Card) (before : List Repo) where
   pub at_set : (n c : List ℕ) (d : Option (List ℕ)) (k text : List ℕ) (left : ℕ) → Stops (SetPart known) text left → Stops (FromSet known before n c d k) text left
   at_set n c d k text left s = stops_as (SetPart known) set_pieces (GoodSet known) (made n c d k) (λ repo. repo.list) (set_part known) text left s
 
-  pub repo_read : (text r1 r2 r3 r4 rest n c : List ℕ) (d : Option (List ℕ)) (k : List ℕ) (list : List Card) → ReadsLine name_line (IsNext before) text n r1 → ReadsLine comment_line IsLineText r1 c r2 → ReadsLine distribution_line IsDistribution r2 d r3 → ReadsLine component_line IsComponent r3 k r4 → ReadsPart set_pieces (GoodSet known) r4 list rest
+  pub repo_read : (text r1 r2 r3 r4 rest n c : List ℕ) (d : Option (List ℕ)) (k : List ℕ) (list : List Card) → ReadsLine name_line (IsNext repo_name before) text n r1 → ReadsLine comment_line IsLineText r1 c r2 → ReadsLine distribution_line IsDistribution r2 d r3 → ReadsLine component_line IsComponent r3 k r4 → ReadsPart set_pieces (GoodSet known) r4 list rest
       → ReadsPart repo_pieces (GoodRepo known before) text (made n c d k list) rest
   unfolding repo_pieces
   repo_read text r1 r2 r3 r4 rest n c d k list a b e f s = record {
@@ -321,7 +342,18 @@ module _ (known : List Card) (before : List Repo) where
     takes = (r1, a.1, (r2, b.1, (r3, e.1, (r4, f.1, s.takes))));
   }
 
-  pub not_next : (text rest name : List ℕ) (follows : Bool) → follows ≡ false → (IsTrue follows ↔ NamesBefore before name) → IsLine text (name_line name) rest → NoLine name_line (IsNext before) text
-  not_next text rest name follows f h l a behind g m =
-      let same : name ≡ a = append_cancel_left (codes "repo ") name a (line_unique text (name_line name) (name_line a) rest behind l m).0 in
-      true≢false (sym (h.1 (subst (NamesBefore before) (sym same) g.1)) ∙ f)
+-- ---- a snapshot
+module _ (known : List Card) (before : List Snapshot) where
+  pub at_title : (text : List ℕ) (left : ℕ) → Stops (Line snapshot_line (IsTitle known before)) text left → Stops (NextSnapshot known before) text left
+  unfolding NextSnapshot
+  at_title text left s = stops_first (Line snapshot_line (IsTitle known before)) (FromList known before) (line_of snapshot_line) (list_of known before) (IsTitle known before) (GoodFromList known before) (λ snapshot. snapshot.name) (title_part known before) (from_list known before) text left s
+
+  pub past_title : (text rest : List ℕ) (left : ℕ) (n : List ℕ) → IsTitle known before n → IsLine text (snapshot_line n) rest → Stops (SetPart known) rest left → Stops (NextSnapshot known before) text left
+  unfolding NextSnapshot
+  past_title text rest left n g l s =
+      stops_then (Line snapshot_line (IsTitle known before)) (FromList known before) (line_of snapshot_line) (list_of known before) (IsTitle known before) (GoodFromList known before) (λ snapshot. snapshot.name) (title_part known before) (from_list known before) (title_told known before) text rest left n g (rest, l, refl)
+      (stops_as (SetPart known) set_pieces (GoodSet known) (frozen n) (λ snapshot. snapshot.list) (set_part known) rest left s)
+
+  pub snapshot_read : (text mid rest n : List ℕ) (list : List Card) → ReadsLine snapshot_line (IsTitle known before) text n mid → ReadsPart set_pieces (GoodSet known) mid list rest → ReadsPart snapshot_pieces (GoodSnapshot known before) text (frozen n list) rest
+  unfolding snapshot_pieces
+  snapshot_read text mid rest n list a s = record { good = record { name = a.0; list = s.good }; takes = (mid, a.1, s.takes) }

@@ -10,17 +10,18 @@ use Rattle.ap_text.specs.Names.{is_name, is_component}
 use Rattle.package_core.specs.Card.{Card}
 use Rattle.package_core.specs.Order.{package_cmp}
 use Rattle.package_list.specs.Sorted.{AllLess}
-use Rattle.machine_state.specs.declared.limit.Limit.TheVariants.{Repos, Packages, Known}
+use Rattle.machine_state.specs.declared.limit.Limit.TheVariants.{Repos, Snapshots, Packages, Known}
 use Rattle.machine_state.specs.declared.repo.Repo.{Repo}
+use Rattle.machine_state.specs.declared.snapshot.Snapshot.{Snapshot}
 use Rattle.machine_state.specs.Limits.{limit_number}
-use Rattle.machine_state.specs.State.{IsLineText}
+use Rattle.machine_state.specs.State.{IsLineText, empty, repo_name, snapshot_name}
 use Rattle.machine_state.specs.Values.{StateView}
 use Rattle.catalogue_text.specs.Pieces.{Piece, alone, packed}
-use Rattle.catalogue_text.specs.Root.{id_of, blank_and, known_line, repos_line, name_line, comment_line, distribution_line, component_line, set_line, set_pieces, repo_pieces, known_pieces, repos_pieces, last_pieces, root_pieces}
-use Rattle.catalogue_text.specs.Grammar.{Line, Series, Count, NextPackage, NextMember, MayJoin, SetPart, IsName, IsNext, NextRepo, LastPart, KnownPart, ReposPart, Root, IsWithinLimits}
-use Rattle.catalogue_text.specs.Reading.{Each, GoodSet, GoodRepo, GoodKnown, GoodRepos, IdsApart}
+use Rattle.catalogue_text.specs.Root.{id_of, blank_and, known_line, repos_line, name_line, comment_line, distribution_line, component_line, snapshots_line, snapshot_line, set_line, set_pieces, repo_pieces, known_pieces, repos_pieces, snapshot_pieces, snapshots_pieces, last_pieces, root_pieces}
+use Rattle.catalogue_text.specs.Grammar.{Line, Series, Count, NextPackage, NextMember, MayJoin, SetPart, IsName, IsNext, NextRepo, NextSnapshot, LastPart, KnownPart, ReposPart, SnapshotsPart, Root, IsWithinLimits}
+use Rattle.catalogue_text.specs.Reading.{Each, GoodSet, GoodRepo, GoodSnapshot, GoodKnown, GoodRepos, GoodSnapshots, IdsApart}
 use Rattle.catalogue_text.proofs.Parts.{IsPart, IsTold, Others, IsOther, line_of, line_part, line_told, both_part, both_told, as_part, as_told, series_part, series_told, part_when}
-use Rattle.catalogue_text.proofs.PlainLemmas.{id_other, known_other, repos_other, set_other, name_other, comment_other, distribution_other, component_other}
+use Rattle.catalogue_text.proofs.PlainLemmas.{id_other, known_other, repos_other, snapshots_other, snapshot_other, set_other, name_other, comment_other, distribution_other, component_other}
 
 -- ---- one package
 package_mono : (before : List Card) (K L : Card → List Piece → Type 0) → ((a : Card) (xs : List Piece) → K a xs → L a xs) → (xs : List Piece) → NextPackage before K xs → NextPackage before L xs
@@ -217,17 +218,17 @@ module _ (known : List Card) (before : List Repo) where
   GoodFromComment n repo = IsLineText repo.comment × GoodFromDistribution n repo.comment repo
 
   abbrev pub GoodFromName : Repo → Type 0
-  GoodFromName repo = IsNext before repo.name × GoodFromComment repo.name repo
+  GoodFromName repo = IsNext repo_name before repo.name × GoodFromComment repo.name repo
 
   good_repo : (repo : Repo) → GoodRepo known before repo → GoodFromName repo
   good_repo repo g = (g.name, (g.comment, (g.distribution, (g.component, (g.list, refl)))))
 
   -- the lines as parts
-  pub name_part : IsPart (Line name_line (IsNext before)) (line_of name_line) (IsNext before)
-  name_part = line_part name_line (IsNext before) (λ a g. name_other a)
+  pub name_part : IsPart (Line name_line (IsNext repo_name before)) (line_of name_line) (IsNext repo_name before)
+  name_part = line_part name_line (IsNext repo_name before) (λ a g. name_other a)
 
-  pub name_told : IsTold (Line name_line (IsNext before)) (line_of name_line) (IsNext before)
-  name_told = line_told name_line (IsNext before) (λ a b g h e. names_apart (codes "repo ") a b e)
+  pub name_told : IsTold (Line name_line (IsNext repo_name before)) (line_of name_line) (IsNext repo_name before)
+  name_told = line_told name_line (IsNext repo_name before) (λ a b g h e. names_apart (codes "repo ") a b e)
 
   pub comment_part : IsPart (Line comment_line IsLineText) (line_of comment_line) IsLineText
   comment_part = line_part comment_line IsLineText (λ a g. comment_other a)
@@ -262,7 +263,7 @@ module _ (known : List Card) (before : List Repo) where
   pub repo_part : IsPart (NextRepo known before) repo_pieces (GoodRepo known before)
   unfolding NextRepo repo_pieces
   repo_part = part_when (NextRepo known before) repo_pieces GoodFromName (GoodRepo known before) good_repo
-      (both_part (Line name_line (IsNext before)) FromComment (line_of name_line) comment_of (IsNext before) GoodFromComment (λ repo. repo.name) name_part from_comment)
+      (both_part (Line name_line (IsNext repo_name before)) FromComment (line_of name_line) comment_of (IsNext repo_name before) GoodFromComment (λ repo. repo.name) name_part from_comment)
 
   module _ (apart : IdsApart known) where
     told_set : (n c : List ℕ) (d : Option (List ℕ)) (k : List ℕ) → IsTold (FromSet n c d k) set_of (GoodFromSet n c d k)
@@ -279,7 +280,7 @@ module _ (known : List Card) (before : List Repo) where
 
     pub repo_told : IsTold (NextRepo known before) repo_pieces (GoodRepo known before)
     unfolding NextRepo repo_pieces
-    repo_told K repo more g p = both_told (Line name_line (IsNext before)) FromComment (line_of name_line) comment_of (IsNext before) GoodFromComment (λ repo. repo.name) name_part from_comment name_told told_comment K repo more (good_repo repo g) p
+    repo_told K repo more g p = both_told (Line name_line (IsNext repo_name before)) FromComment (line_of name_line) comment_of (IsNext repo_name before) GoodFromComment (λ repo. repo.name) name_part from_comment name_told told_comment K repo more (good_repo repo g) p
 
 -- ---- all repositories
 module _ (known : List Card) where
@@ -336,52 +337,132 @@ module _ (known : List Card) where
 
   pub last_part : IsPart (LastPart known) (λ u. last_pieces) (λ u. IsWithinLimits known)
   unfolding LastPart last_pieces
-  last_part = part_when (LastPart known) (λ u. last_pieces) _ (λ u. IsWithinLimits known) (λ u g. (tt, (tt, g)))
-      (both_part (Line {A = Unit {0}} (λ u. codes "snapshots 0") Any) (λ u. FromPublications) (λ u. alone (codes "snapshots 0") ∷ []) (λ u. alone (codes "publications 0") ∷ alone (codes "end") ∷ []) Any (λ u v. Unit {0} × IsWithinLimits known) (λ u. tt) (fixed_part (codes "snapshots 0") refl) (λ u. publications_part))
+  last_part = part_when (LastPart known) (λ u. last_pieces) _ (λ u. IsWithinLimits known) (λ u g. (tt, g)) publications_part
 
   pub last_told : IsTold (LastPart known) (λ u. last_pieces) (λ u. IsWithinLimits known)
   unfolding LastPart last_pieces
-  last_told K u more g p =
-      both_told (Line {A = Unit {0}} (λ u. codes "snapshots 0") Any) (λ u. FromPublications) (λ u. alone (codes "snapshots 0") ∷ []) (λ u. alone (codes "publications 0") ∷ alone (codes "end") ∷ []) Any (λ u v. Unit {0} × IsWithinLimits known) (λ u. tt) (fixed_part (codes "snapshots 0") refl) (λ u. publications_part) (fixed_told (codes "snapshots 0")) (λ u. publications_told) K u more (tt, (tt, g)) p
+  last_told K u more g p = publications_told K u more (tt, g) p
+
+-- ---- a snapshot, line by line
+abbrev pub frozen : List ℕ → List Card → Snapshot
+frozen name list = record { name = name; list = list }
+
+module _ (known : List Card) (before : List Snapshot) where
+  abbrev pub FromList : List ℕ → (Snapshot → List Piece → Type 0) → List Piece → Type 0
+  FromList n K = SetPart known (λ list. K (frozen n list))
+
+  abbrev pub list_of : Snapshot → List Piece
+  list_of snapshot = set_pieces snapshot.list
+
+  abbrev pub IsTitle : List ℕ → Type 0
+  IsTitle name = IsNext snapshot_name before name
+
+  abbrev pub GoodFromList : List ℕ → Snapshot → Type 0
+  GoodFromList n snapshot = GoodSet known snapshot.list × (frozen n snapshot.list ≡ snapshot)
+
+  good_snapshot : (snapshot : Snapshot) → GoodSnapshot known before snapshot → IsTitle snapshot.name × GoodFromList snapshot.name snapshot
+  good_snapshot snapshot g = (g.name, (g.list, refl))
+
+  pub title_part : IsPart (Line snapshot_line IsTitle) (line_of snapshot_line) IsTitle
+  title_part = line_part snapshot_line IsTitle (λ a g. snapshot_other a)
+
+  pub title_told : IsTold (Line snapshot_line IsTitle) (line_of snapshot_line) IsTitle
+  title_told = line_told snapshot_line IsTitle (λ a b g h e. names_apart (codes "snapshot ") a b e)
+
+  pub from_list : (n : List ℕ) → IsPart (FromList n) list_of (GoodFromList n)
+  from_list n = as_part (SetPart known) set_pieces (GoodSet known) (frozen n) (λ snapshot. snapshot.list) (set_part known)
+
+  pub snapshot_part : IsPart (NextSnapshot known before) snapshot_pieces (GoodSnapshot known before)
+  unfolding NextSnapshot snapshot_pieces
+  snapshot_part = part_when (NextSnapshot known before) snapshot_pieces _ (GoodSnapshot known before) good_snapshot
+      (both_part (Line snapshot_line IsTitle) FromList (line_of snapshot_line) list_of IsTitle GoodFromList (λ snapshot. snapshot.name) title_part from_list)
+
+  told_list : IdsApart known → (n : List ℕ) → IsTold (FromList n) list_of (GoodFromList n)
+  told_list apart n = as_told (SetPart known) set_pieces (GoodSet known) (frozen n) (λ snapshot. snapshot.list) (set_part known) (set_told known apart)
+
+  pub snapshot_told : IdsApart known → IsTold (NextSnapshot known before) snapshot_pieces (GoodSnapshot known before)
+  unfolding NextSnapshot snapshot_pieces
+  snapshot_told apart K snapshot more g p =
+      both_told (Line snapshot_line IsTitle) FromList (line_of snapshot_line) list_of IsTitle GoodFromList (λ snapshot. snapshot.name) title_part from_list title_told (told_list apart) K snapshot more (good_snapshot snapshot g) p
+
+-- ---- all snapshots
+module _ (known : List Card) where
+  good_snapshots : (snapshots : List Snapshot) → GoodSnapshots known snapshots → (length snapshots ≤ limit_number Snapshots) × GoodOf (GoodSnapshot known) (length snapshots) snapshots
+  good_snapshots snapshots g = (g.0, (refl, g.1))
+
+  pub snapshots_part : IsPart (SnapshotsPart known) snapshots_pieces (GoodSnapshots known)
+  unfolding SnapshotsPart snapshots_pieces
+  snapshots_part = part_when (SnapshotsPart known) snapshots_pieces _ (GoodSnapshots known) good_snapshots
+      (both_part (Count snapshots_line (limit_number Snapshots)) (λ n. Series n (NextSnapshot known) []) (line_of snapshots_line) (flat_map snapshot_pieces) (λ n. n ≤ limit_number Snapshots) (GoodOf (GoodSnapshot known)) length
+      (count_part snapshots_line (limit_number Snapshots) snapshots_other) (series_part (NextSnapshot known) snapshot_pieces (GoodSnapshot known) (snapshot_part known)))
+
+  pub snapshots_told : IdsApart known → IsTold (SnapshotsPart known) snapshots_pieces (GoodSnapshots known)
+  unfolding SnapshotsPart snapshots_pieces
+  snapshots_told apart K snapshots more g p =
+      both_told (Count snapshots_line (limit_number Snapshots)) (λ n. Series n (NextSnapshot known) []) (line_of snapshots_line) (flat_map snapshot_pieces) (λ n. n ≤ limit_number Snapshots) (GoodOf (GoodSnapshot known)) length
+      (count_part snapshots_line (limit_number Snapshots) snapshots_other) (series_part (NextSnapshot known) snapshot_pieces (GoodSnapshot known) (snapshot_part known))
+      (count_told (codes "snapshots ") (limit_number Snapshots) (omega arith)) (series_told (NextSnapshot known) snapshot_pieces (GoodSnapshot known) (snapshot_part known) (λ before. snapshot_told known before apart)) K snapshots more (good_snapshots snapshots g) p
 
 -- ---- a root
-abbrev pub state_of : List Card → List Repo → StateView
-state_of known repos = record { known = known; repos = repos }
+abbrev pub state_of : List Card → List Repo → List Snapshot → StateView
+state_of known repos snapshots = record empty { known = known; repos = repos; snapshots = snapshots }
+
+abbrev pub FromLast : List Card → List Repo → List Snapshot → (StateView → List Piece → Type 0) → List Piece → Type 0
+FromLast known repos snapshots K = LastPart known (λ u. K (state_of known repos snapshots))
+
+abbrev pub FromSnapshots : List Card → List Repo → (StateView → List Piece → Type 0) → List Piece → Type 0
+FromSnapshots known repos K = SnapshotsPart known (λ snapshots. FromLast known repos snapshots K)
 
 abbrev pub FromRepos : List Card → (StateView → List Piece → Type 0) → List Piece → Type 0
-FromRepos known K = ReposPart known (λ repos. LastPart known (λ u. K (state_of known repos)))
+FromRepos known K = ReposPart known (λ repos. FromSnapshots known repos K)
 
-abbrev pub FromLast : List Card → List Repo → (StateView → List Piece → Type 0) → List Piece → Type 0
-FromLast known repos K = LastPart known (λ u. K (state_of known repos))
+-- what stands behind each part
+abbrev pub behind_snapshots : StateView → List Piece
+behind_snapshots state = last_pieces
 
-abbrev pub GoodFromLast : List Card → List Repo → StateView → Type 0
-GoodFromLast known repos state = IsWithinLimits known × (state_of known repos ≡ state)
+abbrev pub behind_repos : StateView → List Piece
+behind_repos state = snapshots_pieces state.snapshots ++ behind_snapshots state
+
+abbrev pub behind_known : StateView → List Piece
+behind_known state = repos_pieces state.repos ++ behind_repos state
+
+abbrev pub GoodFromLast : List Card → List Repo → List Snapshot → StateView → Type 0
+GoodFromLast known repos snapshots state = IsWithinLimits known × (state_of known repos snapshots ≡ state)
+
+abbrev pub GoodFromSnapshots : List Card → List Repo → StateView → Type 0
+GoodFromSnapshots known repos state = GoodSnapshots known state.snapshots × GoodFromLast known repos state.snapshots state
 
 abbrev pub GoodFromRepos : List Card → StateView → Type 0
-GoodFromRepos known state = GoodRepos known state.repos × GoodFromLast known state.repos state
+GoodFromRepos known state = GoodRepos known state.repos × GoodFromSnapshots known state.repos state
 
 abbrev pub GoodState : StateView → Type 0
 GoodState state = GoodKnown state.known × GoodFromRepos state.known state
 
-pub from_last : (known : List Card) (repos : List Repo) → IsPart (FromLast known repos) (λ state. last_pieces) (GoodFromLast known repos)
-from_last known repos = as_part (LastPart known) (λ u. last_pieces) (λ u. IsWithinLimits known) (λ u. state_of known repos) (λ state. tt) (last_part known)
+pub from_last : (known : List Card) (repos : List Repo) (snapshots : List Snapshot) → IsPart (FromLast known repos snapshots) behind_snapshots (GoodFromLast known repos snapshots)
+from_last known repos snapshots = as_part (LastPart known) (λ u. last_pieces) (λ u. IsWithinLimits known) (λ u. state_of known repos snapshots) (λ state. tt) (last_part known)
 
-pub from_repos : (known : List Card) → IsPart (FromRepos known) (λ state. repos_pieces state.repos ++ last_pieces) (GoodFromRepos known)
-from_repos known = both_part (ReposPart known) (FromLast known) repos_pieces (λ state. last_pieces) (GoodRepos known) (GoodFromLast known) (λ state. state.repos) (repos_part known) (from_last known)
+pub from_snapshots : (known : List Card) (repos : List Repo) → IsPart (FromSnapshots known repos) behind_repos (GoodFromSnapshots known repos)
+from_snapshots known repos = both_part (SnapshotsPart known) (FromLast known repos) snapshots_pieces behind_snapshots (GoodSnapshots known) (GoodFromLast known repos) (λ state. state.snapshots) (snapshots_part known) (from_last known repos)
+
+pub from_repos : (known : List Card) → IsPart (FromRepos known) behind_known (GoodFromRepos known)
+from_repos known = both_part (ReposPart known) (FromSnapshots known) repos_pieces behind_repos (GoodRepos known) (GoodFromSnapshots known) (λ state. state.repos) (repos_part known) (from_snapshots known)
 
 pub root_part : IsPart Root root_pieces GoodState
 unfolding Root root_pieces
-root_part = both_part KnownPart FromRepos known_pieces (λ state. repos_pieces state.repos ++ last_pieces) GoodKnown GoodFromRepos (λ state. state.known) known_part from_repos
+root_part = both_part KnownPart FromRepos known_pieces behind_known GoodKnown GoodFromRepos (λ state. state.known) known_part from_repos
 
-from_last_told : (known : List Card) (repos : List Repo) → IsTold (FromLast known repos) (λ state. last_pieces) (GoodFromLast known repos)
-from_last_told known repos = as_told (LastPart known) (λ u. last_pieces) (λ u. IsWithinLimits known) (λ u. state_of known repos) (λ state. tt) (last_part known) (last_told known)
+from_last_told : (known : List Card) (repos : List Repo) (snapshots : List Snapshot) → IsTold (FromLast known repos snapshots) behind_snapshots (GoodFromLast known repos snapshots)
+from_last_told known repos snapshots = as_told (LastPart known) (λ u. last_pieces) (λ u. IsWithinLimits known) (λ u. state_of known repos snapshots) (λ state. tt) (last_part known) (last_told known)
 
-from_repos_told : (known : List Card) → IdsApart known → IsTold (FromRepos known) (λ state. repos_pieces state.repos ++ last_pieces) (GoodFromRepos known)
-from_repos_told known apart = both_told (ReposPart known) (FromLast known) repos_pieces (λ state. last_pieces) (GoodRepos known) (GoodFromLast known) (λ state. state.repos) (repos_part known) (from_last known) (repos_told known apart) (from_last_told known)
+from_snapshots_told : (known : List Card) → IdsApart known → (repos : List Repo) → IsTold (FromSnapshots known repos) behind_repos (GoodFromSnapshots known repos)
+from_snapshots_told known apart repos = both_told (SnapshotsPart known) (FromLast known repos) snapshots_pieces behind_snapshots (GoodSnapshots known) (GoodFromLast known repos) (λ state. state.snapshots) (snapshots_part known) (from_last known repos) (snapshots_told known apart) (from_last_told known repos)
+
+from_repos_told : (known : List Card) → IdsApart known → IsTold (FromRepos known) behind_known (GoodFromRepos known)
+from_repos_told known apart = both_told (ReposPart known) (FromSnapshots known) repos_pieces behind_repos (GoodRepos known) (GoodFromSnapshots known) (λ state. state.repos) (repos_part known) (from_snapshots known) (repos_told known apart) (from_snapshots_told known apart)
 
 pub root_told : (K : StateView → List Piece → Type 0) (state : StateView) (more : List Piece) → IdsApart state.known → GoodState state → Root K (root_pieces state ++ more) → K state more
 unfolding Root root_pieces
 root_told K state more apart g p =
     from_repos_told state.known apart K state more g.1
-    (known_told (λ known. FromRepos known K) state.known ((repos_pieces state.repos ++ last_pieces) ++ more) g.0
-    (subst (Root K) (append_assoc (known_pieces state.known) (repos_pieces state.repos ++ last_pieces) more) p))
+    (known_told (λ known. FromRepos known K) state.known (behind_known state ++ more) g.0
+    (subst (Root K) (append_assoc (known_pieces state.known) (behind_known state) more) p))

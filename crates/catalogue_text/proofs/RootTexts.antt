@@ -16,84 +16,104 @@ use Rattle.package_core.proofs.WholeLemmas.{one_package_text}
 use Rattle.package_list.specs.Sorted.{AllLess, equal_of}
 use Rattle.machine_state.specs.declared.limit.Limit.TheVariants.{Packages}
 use Rattle.machine_state.specs.declared.repo.Repo.{Repo}
+use Rattle.machine_state.specs.declared.snapshot.Snapshot.{Snapshot}
 use Rattle.machine_state.specs.Ascending as names
 use Rattle.machine_state.specs.Limits.{limit_number}
-use Rattle.machine_state.specs.State.{IsRepo, IsNamedList, IsKnown, Valid, repo_cmp, text_length}
+use Rattle.machine_state.specs.State.{IsRepo, IsSnapshot, IsNamedList, IsKnown, Valid, repo_name, repo_cmp, snapshot_name, snapshot_cmp, text_length}
 use Rattle.machine_state.specs.Values.{StateView}
+use Rattle.machine_state.proofs.ValidLemmas.{valid_plain}
 use Rattle.catalogue_text.specs.Lines.{IsPlain, is_ended, line_ends}
 use Rattle.catalogue_text.specs.Pieces.{Piece, alone, packed, package_line, piece_text, Begins, Takes}
-use Rattle.catalogue_text.specs.Root.{id_of, joined, set_pieces, repo_pieces, known_pieces, repos_pieces, last_pieces, root_pieces, root_text}
+use Rattle.catalogue_text.specs.Root.{id_of, joined, set_pieces, repo_pieces, known_pieces, repos_pieces, snapshot_pieces, snapshots_pieces, last_pieces, root_pieces, root_text}
 use Rattle.catalogue_text.specs.Grammar.{Ends, KnownPart, Root, CanStand, IsWithinLimits, MayJoin}
 use Rattle.catalogue_text.specs.Faults.{IsWithin, TextsApart, IsFirstBadLine}
-use Rattle.catalogue_text.specs.Reading.{Stops, StopsRoot, Never, Always, Each, GoodSet, GoodRepo, GoodKnown, GoodRepos, IdsApart}
+use Rattle.catalogue_text.specs.Reading.{Stops, StopsRoot, Never, Always, Each, GoodSet, GoodRepo, GoodSnapshot, GoodKnown, GoodRepos, GoodSnapshots, IdsApart}
 use Rattle.catalogue_text.proofs.Parts.{Others}
-use Rattle.catalogue_text.proofs.PlainLemmas.{known_plain, repos_plain, set_plain, repo_name_plain, comment_plain, distribution_plain, component_plain, id_plain}
-use Rattle.catalogue_text.proofs.RootParts.{GoodState, state_of, known_part, known_told, root_part, root_told}
+use Rattle.catalogue_text.proofs.PlainLemmas.{known_plain, repos_plain, set_plain, repo_name_plain, comment_plain, distribution_plain, component_plain, snapshots_plain, snapshot_plain, id_plain}
+use Rattle.catalogue_text.proofs.RootParts.{GoodState, state_of, behind_known, behind_repos, known_part, known_told, root_part, root_told}
 use Rattle.catalogue_text.proofs.TakesLemmas.{Shorts, takes_short, takes_unique, GoesOn, nothing_begins, ended_text, joined_ended}
-use Rattle.catalogue_text.proofs.ValidLemmas.{all_cons, all_tail, all_none, each_less, sorted_each, apart_each, each_join, all_known, names_before, names_push}
+use Rattle.catalogue_text.proofs.ValidLemmas.{all_cons, all_tail, all_none, each_less, sorted_each, apart_each, each_join, all_known, names_before, names_each}
 
 -- ---- a valid state is good
+good_set : (known list : List Card) → IsNamedList known list → GoodSet known list
+good_set known list n = (n.few, each_join known [] list n.listed n.sorted n.apart)
+
 each_repo : (known : List Card) (done xs : List Repo) → All IsRepo xs → All (λ repo. IsNamedList known repo.list) xs → names.IsAscending repo_cmp (done ++ xs) → Each (GoodRepo known) done xs
 each_repo known done [] r l a = tt
 each_repo known done (x ∷ xs) r l a = (
   record {
-    name = ((r 0 x (omega arith)).name, names_before done x xs a);
+    name = ((r 0 x (omega arith)).name, names_before repo_name done x xs a);
     comment = (r 0 x (omega arith)).comment;
     distribution = (r 0 x (omega arith)).distribution;
     component = (r 0 x (omega arith)).component;
-    list = set x.list (l 0 x (omega arith));
+    list = good_set known x.list (l 0 x (omega arith));
   },
   each_repo known (done ++ x ∷ []) xs (all_tail IsRepo x xs r) (all_tail (λ repo. IsNamedList known repo.list) x xs l) (subst (names.IsAscending repo_cmp) (sym (append_assoc done (x ∷ []) xs)) a),
 )
-  where
-    set : (list : List Card) → IsNamedList known list → GoodSet known list
-    set list n = (n.few, each_join known [] list n.listed n.sorted n.apart)
+
+each_snapshot : (known : List Card) (done xs : List Snapshot) → All IsSnapshot xs → All (λ snapshot. IsNamedList known snapshot.list) xs → names.IsAscending snapshot_cmp (done ++ xs) → Each (GoodSnapshot known) done xs
+each_snapshot known done [] r l a = tt
+each_snapshot known done (x ∷ xs) r l a = (
+  record { name = (r 0 x (omega arith), names_before snapshot_name done x xs a); list = good_set known x.list (l 0 x (omega arith)) },
+  each_snapshot known (done ++ x ∷ []) xs (all_tail IsSnapshot x xs r) (all_tail (λ snapshot. IsNamedList known snapshot.list) x xs l) (subst (names.IsAscending snapshot_cmp) (sym (append_assoc done (x ∷ []) xs)) a),
+)
 
 pub good_state : (state : StateView) → Valid state → GoodState state
 good_state state v = (
   (v.known.few, each_less [] state.known v.known.sorted),
   (
-    (v.few, each_repo state.known [] state.repos v.repos v.lists v.sorted),
-    (record { files = v.known.files; texts = v.known.texts }, refl),
+    (v.repos.few, each_repo state.known [] state.repos v.repos.each v.repos.lists v.repos.sorted),
+    (
+      (v.snapshots.few, each_snapshot state.known [] state.snapshots v.snapshots.each v.snapshots.lists v.snapshots.sorted),
+      (record { files = v.known.files; texts = v.known.texts }, λ i. record state { mirrors = sym v.stored.mirrors i; publications = sym v.stored.publications i }),
+    ),
   ),
 )
 
 -- ---- what is good is valid
 module _ (known : List Card) where
+  named_list : (list : List Card) → GoodSet known list → IsNamedList known list
+  named_list list g = record {
+    sorted = sorted_each (MayJoin known) (λ done x m. m.after) [] list tt g.1;
+    apart = apart_each known [] list refl g.1;
+    listed = all_known known [] list g.1;
+    few = g.0;
+  }
+
   all_repos : (done xs : List Repo) → Each (GoodRepo known) done xs → All IsRepo xs
   all_repos done [] e = all_none IsRepo
   all_repos done (x ∷ xs) e = all_cons IsRepo x xs (record { name = e.0.name.0; comment = e.0.comment; distribution = e.0.distribution; component = e.0.component }) (all_repos (done ++ x ∷ []) xs e.1)
 
-  all_lists : (done xs : List Repo) → Each (GoodRepo known) done xs → All (λ repo. IsNamedList known repo.list) xs
-  all_lists done [] e = all_none (λ repo. IsNamedList known repo.list)
-  all_lists done (x ∷ xs) e = all_cons (λ repo. IsNamedList known repo.list) x xs (named x.list e.0.list) (all_lists (done ++ x ∷ []) xs e.1)
-    where
-      named : (list : List Card) → GoodSet known list → IsNamedList known list
-      named list g = record {
-        sorted = sorted_each (MayJoin known) (λ done x m. m.after) [] list tt g.1;
-        apart = apart_each known [] list refl g.1;
-        listed = all_known known [] list g.1;
-        few = g.0;
-      }
+  repo_lists : (done xs : List Repo) → Each (GoodRepo known) done xs → All (λ repo. IsNamedList known repo.list) xs
+  repo_lists done [] e = all_none (λ repo. IsNamedList known repo.list)
+  repo_lists done (x ∷ xs) e = all_cons (λ repo. IsNamedList known repo.list) x xs (named_list x.list e.0.list) (repo_lists (done ++ x ∷ []) xs e.1)
 
-  pub names_each : (done xs : List Repo) → names.IsAscending repo_cmp done → Each (GoodRepo known) done xs → names.IsAscending repo_cmp (done ++ xs)
-  names_each done [] a e = subst (names.IsAscending repo_cmp) (sym (append-nil done)) a
-  names_each done (x ∷ xs) a e = subst (names.IsAscending repo_cmp) (append_assoc done (x ∷ []) xs) (names_each (done ++ x ∷ []) xs (names_push done x a e.0.name.1) e.1)
+  all_snapshots : (done xs : List Snapshot) → Each (GoodSnapshot known) done xs → All IsSnapshot xs
+  all_snapshots done [] e = all_none IsSnapshot
+  all_snapshots done (x ∷ xs) e = all_cons IsSnapshot x xs e.0.name.0 (all_snapshots (done ++ x ∷ []) xs e.1)
 
-pub valid_state : (known : List Card) (repos : List Repo) → All IsWhole known → GoodKnown known → GoodRepos known repos → IsWithinLimits known → Valid (state_of known repos)
-valid_state known repos w k r l = record {
-  known = record {
-    packages = w;
-    sorted = sorted_each (AllLess package_cmp) (λ done x h. h) [] known tt k.1;
-    few = k.0;
-    files = l.files;
-    texts = l.texts;
-  };
-  repos = all_repos known [] repos r.1;
-  lists = all_lists known [] repos r.1;
-  sorted = names_each known [] repos tt r.1;
+  snapshot_lists : (done xs : List Snapshot) → Each (GoodSnapshot known) done xs → All (λ snapshot. IsNamedList known snapshot.list) xs
+  snapshot_lists done [] e = all_none (λ snapshot. IsNamedList known snapshot.list)
+  snapshot_lists done (x ∷ xs) e = all_cons (λ snapshot. IsNamedList known snapshot.list) x xs (named_list x.list e.0.list) (snapshot_lists (done ++ x ∷ []) xs e.1)
+
+pub valid_state : (known : List Card) (repos : List Repo) (snapshots : List Snapshot) → All IsWhole known → GoodKnown known → GoodRepos known repos → GoodSnapshots known snapshots → IsWithinLimits known → Valid (state_of known repos snapshots)
+valid_state known repos snapshots w k r f l = valid_plain known repos snapshots (record {
+  packages = w;
+  sorted = sorted_each (AllLess package_cmp) (λ done x h. h) [] known tt k.1;
+  few = k.0;
+  files = l.files;
+  texts = l.texts;
+}) (record {
+  each = all_repos known [] repos r.1;
+  lists = repo_lists known [] repos r.1;
+  sorted = names_each repo_name (GoodRepo known) (λ done x g. g.name.1) [] repos tt r.1;
   few = r.0;
-}
+}) (record {
+  each = all_snapshots known [] snapshots f.1;
+  lists = snapshot_lists known [] snapshots f.1;
+  sorted = names_each snapshot_name (GoodSnapshot known) (λ done x g. g.name.1) [] snapshots tt f.1;
+  few = f.0;
+})
 
 -- ---- the pieces of a valid state are cut out of its text
 abbrev ArePieces : List Piece → Type 0
@@ -131,11 +151,20 @@ repos_are : (known : List Card) (repos : List Repo) → All IsRepo repos → All
 repos_are known [] r l = tt
 repos_are known (x ∷ xs) r l = pieces_both (repo_pieces x) (flat_map repo_pieces xs) (repo_are x (r 0 x (omega arith)) (l 0 x (omega arith)).few) (repos_are known xs (all_tail IsRepo x xs r) (all_tail (λ repo. IsNamedList known repo.list) x xs l))
 
+snapshot_are : (snapshot : Snapshot) → IsSnapshot snapshot → length snapshot.list ≤ limit_number Packages → ArePieces (snapshot_pieces snapshot)
+unfolding snapshot_pieces
+snapshot_are snapshot g few = (snapshot_plain snapshot.name g, set_are snapshot.list few)
+
+snapshots_are : (known : List Card) (snapshots : List Snapshot) → All IsSnapshot snapshots → All (λ snapshot. IsNamedList known snapshot.list) snapshots → ArePieces (flat_map snapshot_pieces snapshots)
+snapshots_are known [] r l = tt
+snapshots_are known (x ∷ xs) r l = pieces_both (snapshot_pieces x) (flat_map snapshot_pieces xs) (snapshot_are x (r 0 x (omega arith)) (l 0 x (omega arith)).few) (snapshots_are known xs (all_tail IsSnapshot x xs r) (all_tail (λ snapshot. IsNamedList known snapshot.list) x xs l))
+
 root_are : (state : StateView) → Valid state → ArePieces (root_pieces state)
-unfolding root_pieces known_pieces repos_pieces last_pieces
+unfolding root_pieces known_pieces repos_pieces snapshots_pieces last_pieces
 root_are state v =
-    pieces_both (known_pieces state.known) (repos_pieces state.repos ++ last_pieces) (refl, (known_plain (length state.known) (let f = v.known.few in omega arith), known_are state.known v.known.packages))
-    (pieces_both (repos_pieces state.repos) last_pieces (refl, (repos_plain (length state.repos) (let f = v.few in omega arith), repos_are state.known state.repos v.repos v.lists)) (refl, (refl, (refl, tt))))
+    pieces_both (known_pieces state.known) (behind_known state) (refl, (known_plain (length state.known) (let f = v.known.few in omega arith), known_are state.known v.known.packages))
+    (pieces_both (repos_pieces state.repos) (behind_repos state) (refl, (repos_plain (length state.repos) (let f = v.repos.few in omega arith), repos_are state.known state.repos v.repos.each v.repos.lists))
+    (pieces_both (snapshots_pieces state.snapshots) last_pieces (snapshots_plain (length state.snapshots) (let f = v.snapshots.few in omega arith), snapshots_are state.known state.snapshots v.snapshots.each v.snapshots.lists) (refl, (refl, tt))))
 
 pub takes_root : (state : StateView) → Valid state → Takes (root_text state) (root_pieces state) []
 unfolding root_text
@@ -171,11 +200,20 @@ shorts_repos : (repos : List Repo) → Shorts (flat_map repo_pieces repos)
 shorts_repos [] = tt
 shorts_repos (x ∷ xs) = shorts_both (repo_pieces x) (flat_map repo_pieces xs) (repo_short x) (shorts_repos xs)
 
+snapshot_short : (snapshot : Snapshot) → Shorts (snapshot_pieces snapshot)
+unfolding snapshot_pieces set_pieces
+snapshot_short snapshot = shorts_alone id_of snapshot.list
+
+shorts_snapshots : (snapshots : List Snapshot) → Shorts (flat_map snapshot_pieces snapshots)
+shorts_snapshots [] = tt
+shorts_snapshots (x ∷ xs) = shorts_both (snapshot_pieces x) (flat_map snapshot_pieces xs) (snapshot_short x) (shorts_snapshots xs)
+
 root_short : (state : StateView) → Valid state → Shorts (root_pieces state)
-unfolding root_pieces known_pieces repos_pieces last_pieces
+unfolding root_pieces known_pieces repos_pieces snapshots_pieces last_pieces
 root_short state v =
-    shorts_both (known_pieces state.known) (repos_pieces state.repos ++ last_pieces) (shorts_known state.known (let t = v.known.texts in omega arith))
-    (shorts_both (repos_pieces state.repos) last_pieces (shorts_repos state.repos) tt)
+    shorts_both (known_pieces state.known) (behind_known state) (shorts_known state.known (let t = v.known.texts in omega arith))
+    (shorts_both (repos_pieces state.repos) (behind_repos state) (shorts_repos state.repos)
+    (shorts_both (snapshots_pieces state.snapshots) last_pieces (shorts_snapshots state.snapshots) tt))
 
 -- ---- whole packages, and ids that are apart
 wholes : (ps : List Card) (text rest : List ℕ) → Takes text (map packed ps) rest → All IsWhole ps
@@ -298,7 +336,7 @@ takes_front (x ∷ xs) ys text rest t = let c = takes_front xs ys t.0 rest t.2 i
 ids_of : (state : StateView) → Takes (root_text state) (root_pieces state) [] → TextsApart (root_text state) → IdsApart state.known
 unfolding root_pieces
 ids_of state t apart =
-    let c = takes_front (known_pieces state.known) (repos_pieces state.repos ++ last_pieces) (root_text state) [] t in
+    let c = takes_front (known_pieces state.known) (behind_known state) (root_text state) [] t in
     ids_apart state.known (root_text state) c.0 apart c.1
 
 pub state_ids : (state : StateView) → Valid state → TextsApart (root_text state) → IdsApart state.known
@@ -363,8 +401,8 @@ one_state a b apart v w e =
 same_known : (a b : StateView) → Valid a → Valid b → root_pieces a ≡ root_pieces b → a.known ≡ b.known
 unfolding root_pieces
 same_known a b v w h =
-    known_told (λ ks xs. ks ≡ b.known) a.known (repos_pieces a.repos ++ last_pieces) (good_state a v).0
-    (subst (KnownPart (λ ks xs. ks ≡ b.known)) (sym h) (known_part.along (λ ks xs. ks ≡ b.known) b.known (repos_pieces b.repos ++ last_pieces) (good_state b w).0 refl))
+    known_told (λ ks xs. ks ≡ b.known) a.known (behind_known a) (good_state a v).0
+    (subst (KnownPart (λ ks xs. ks ≡ b.known)) (sym h) (known_part.along (λ ks xs. ks ≡ b.known) b.known (behind_known b) (good_state b w).0 refl))
 
 pub one_known : (a b : StateView) → Valid a → Valid b → root_text a ≡ root_text b → a.known ≡ b.known
 one_known a b v w e = same_known a b v w (same_pieces a b v w e)

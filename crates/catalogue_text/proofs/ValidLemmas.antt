@@ -11,9 +11,9 @@ use Rattle.package_core.proofs.OrderLaws.{package_total, triple_total, same_trip
 use Rattle.package_list.specs.Sorted.{IsAscending, IsBelow, AllLess, equal_of}
 use Rattle.package_list.specs.Lists.{clash, clashes, has_clash}
 use Rattle.package_list.proofs.Pushes.{less_before, ascending_push}
-use Rattle.machine_state.specs.declared.repo.Repo.{Repo}
 use Rattle.machine_state.specs.Ascending as names
-use Rattle.machine_state.specs.State.{IsKnown, name_cmp, repo_cmp}
+use Rattle.machine_state.specs.Named.{name_cmp, named_cmp}
+use Rattle.machine_state.specs.State.{IsKnown}
 use Rattle.catalogue_text.specs.Grammar.{MayJoin}
 use Rattle.catalogue_text.specs.Reading.{Each}
 
@@ -128,22 +128,28 @@ module _ (known : List Card) where
   all_known done [] e = all_none (IsKnown known)
   all_known done (x ∷ xs) e = all_cons (IsKnown known) x xs e.0.known_is (all_known (done ++ x ∷ []) xs e.1)
 
--- ---- repositories in the order of their names
-abbrev pub NamesBefore : List Repo → List ℕ → Type 0
-NamesBefore done name = All (λ repo. name_cmp repo name ≡ Less) done
+-- ---- in the order of their names
+module _ {X : Type 0} (name_of : X → List ℕ) where
+  abbrev pub NamesBefore : List X → List ℕ → Type 0
+  NamesBefore done name = All (λ x. name_cmp name_of x name ≡ Less) done
 
-below_here : (r x : Repo) (rs xs : List Repo) → names.IsBelow repo_cmp r (rs ++ x ∷ xs) → name_cmp r x.name ≡ Less
-below_here r x [] xs b = b.0
-below_here r x (s ∷ rs) xs b = below_here r x rs xs b.1
+  below_here : (r x : X) (rs xs : List X) → names.IsBelow (named_cmp name_of) r (rs ++ x ∷ xs) → name_cmp name_of r (name_of x) ≡ Less
+  below_here r x [] xs b = b.0
+  below_here r x (s ∷ rs) xs b = below_here r x rs xs b.1
 
-pub names_before : (done : List Repo) (x : Repo) (xs : List Repo) → names.IsAscending repo_cmp (done ++ x ∷ xs) → NamesBefore done x.name
-names_before [] x xs a = all_none (λ repo. name_cmp repo x.name ≡ Less)
-names_before (r ∷ rs) x xs a = all_cons (λ repo. name_cmp repo x.name ≡ Less) r rs (below_here r x rs xs a.0) (names_before rs x xs a.1)
+  pub names_before : (done : List X) (x : X) (xs : List X) → names.IsAscending (named_cmp name_of) (done ++ x ∷ xs) → NamesBefore done (name_of x)
+  names_before [] x xs a = all_none (λ y. name_cmp name_of y (name_of x) ≡ Less)
+  names_before (r ∷ rs) x xs a = all_cons (λ y. name_cmp name_of y (name_of x) ≡ Less) r rs (below_here r x rs xs a.0) (names_before rs x xs a.1)
 
-below_push : (r x : Repo) (rs : List Repo) → names.IsBelow repo_cmp r rs → name_cmp r x.name ≡ Less → names.IsBelow repo_cmp r (rs ++ x ∷ [])
-below_push r x [] b h = (h, tt)
-below_push r x (s ∷ rs) b h = (b.0, below_push r x rs b.1 h)
+  below_push : (r x : X) (rs : List X) → names.IsBelow (named_cmp name_of) r rs → name_cmp name_of r (name_of x) ≡ Less → names.IsBelow (named_cmp name_of) r (rs ++ x ∷ [])
+  below_push r x [] b h = (h, tt)
+  below_push r x (s ∷ rs) b h = (b.0, below_push r x rs b.1 h)
 
-pub names_push : (done : List Repo) (x : Repo) → names.IsAscending repo_cmp done → NamesBefore done x.name → names.IsAscending repo_cmp (done ++ x ∷ [])
-names_push [] x a h = (tt, tt)
-names_push (r ∷ rs) x a h = (below_push r x rs a.0 (h 0 r (omega arith)), names_push rs x a.1 (all_tail (λ repo. name_cmp repo x.name ≡ Less) r rs h))
+  names_push : (done : List X) (x : X) → names.IsAscending (named_cmp name_of) done → NamesBefore done (name_of x) → names.IsAscending (named_cmp name_of) (done ++ x ∷ [])
+  names_push [] x a h = (tt, tt)
+  names_push (r ∷ rs) x a h = (below_push r x rs a.0 (h 0 r (omega arith)), names_push rs x a.1 (all_tail (λ y. name_cmp name_of y (name_of x) ≡ Less) r rs h))
+
+  -- what stands one behind another in the order of the names
+  pub names_each : (Good : List X → X → Type 0) → ((done : List X) (x : X) → Good done x → NamesBefore done (name_of x)) → (done xs : List X) → names.IsAscending (named_cmp name_of) done → Each Good done xs → names.IsAscending (named_cmp name_of) (done ++ xs)
+  names_each Good w done [] a e = subst (names.IsAscending (named_cmp name_of)) (sym (append-nil done)) a
+  names_each Good w done (x ∷ xs) a e = subst (names.IsAscending (named_cmp name_of)) (append_assoc done (x ∷ []) xs) (names_each Good w (done ++ x ∷ []) xs (names_push done x a (w done x e.0)) e.1)

@@ -7,7 +7,7 @@ use Rattle.std.proofs.lemmas.List.Concat.{flat_map-append}
 use Rattle.package_core.specs.Card.{Card}
 use Rattle.machine_state.specs.Values.{StateView}
 use Rattle.catalogue_text.specs.Pieces.{Piece, piece_text}
-use Rattle.catalogue_text.specs.Root.{joined, known_pieces, repos_pieces, last_pieces, root_pieces, root_text}
+use Rattle.catalogue_text.specs.Root.{joined, known_pieces, repos_pieces, snapshots_pieces, last_pieces, root_pieces, root_text}
 
 take_more : (xs : List Card) (i : ℕ) (p : Card) → slice_get xs i ≡ Some p → take (i + 1) xs ≡ take i xs ++ p ∷ []
 take_more [] i p e = cc
@@ -30,11 +30,11 @@ put_more f xs i p o a b e g h =
 pub put_all : (f : Card → Piece) (xs : List Card) (n : ℕ) (o a : List ℕ) → length xs ≤ n → a ≡ o ++ joined (map f (take n xs)) → a ≡ o ++ joined (map f xs)
 put_all f xs n o a le e = e ∙ ap (λ l. o ++ joined (map f l)) (take_all n xs le)
 
--- three pieces
-pub three : {T E : Type 0} (r : Result T E) (o x y z a b c : List ℕ) → x ≡ o ++ a → y ≡ x ++ b → OnOk r (z ≡ y ++ c) → OnOk r (z ≡ o ++ (a ++ (b ++ (c ++ []))))
-three (Ok t) o x y z a b c e f g =
-    g ∙ ap (λ t. t ++ c) (f ∙ ap (λ t. t ++ b) e) ∙ simp (append_assoc, append-nil)
-three (Err t) o x y z a b c e f g = tt
+-- two pieces
+pub two : {T E : Type 0} (r : Result T E) (o x z a b : List ℕ) → x ≡ o ++ a → OnOk r (z ≡ x ++ b) → OnOk r (z ≡ o ++ (a ++ (b ++ [])))
+two (Ok t) o x z a b e f =
+    f ∙ ap (λ t. t ++ b) e ∙ simp (append_assoc, append-nil)
+two (Err t) o x z a b e f = tt
 
 pub on_ok : {T E : Type 0} (r : Result T E) (P Q : Type 0) → (P → Q) → OnOk r P → OnOk r Q
 on_ok (Ok t) P Q f h = f h
@@ -49,11 +49,17 @@ then_two o x y z a b c e f g = then_one x y z b c f g ∙ ap (λ t. t ++ (b ++ c
 pub then_four : (o v w x y z a b c d k : List ℕ) → v ≡ o ++ a → w ≡ v ++ b → x ≡ w ++ c → y ≡ x ++ d → z ≡ y ++ k → z ≡ o ++ (a ++ (b ++ (c ++ (d ++ k))))
 then_four o v w x y z a b c d k e f g h i = then_two w x y z c d k g h i ∙ ap (λ t. t ++ (c ++ (d ++ k))) (f ∙ ap (λ t. t ++ b) e ∙ append_assoc o a b) ∙ append_assoc o (a ++ b) (c ++ (d ++ k)) ∙ ap (λ t. o ++ t) (append_assoc a b (c ++ (d ++ k)))
 
-pub root_joined : (state : StateView) → root_text state ≡ joined (known_pieces state.known) ++ (joined (repos_pieces state.repos) ++ joined last_pieces)
+then_three : (o w x y z a b c d : List ℕ) → w ≡ o ++ a → x ≡ w ++ b → y ≡ x ++ c → z ≡ y ++ d → z ≡ o ++ (a ++ (b ++ (c ++ d)))
+then_three o w x y z a b c d e f g h = then_two w x y z b c d f g h ∙ ap (λ t. t ++ (b ++ (c ++ d))) e ∙ append_assoc o a (b ++ (c ++ d))
+
+root_joined : (state : StateView) → root_text state ≡ joined (known_pieces state.known) ++ (joined (repos_pieces state.repos) ++ (joined (snapshots_pieces state.snapshots) ++ joined last_pieces))
 unfolding root_text root_pieces
 root_joined state =
-    flat_map-append piece_text (known_pieces state.known) (repos_pieces state.repos ++ last_pieces)
-    ∙ ap (λ t. joined (known_pieces state.known) ++ t) (flat_map-append piece_text (repos_pieces state.repos) last_pieces)
+    flat_map-append piece_text (known_pieces state.known) (repos_pieces state.repos ++ (snapshots_pieces state.snapshots ++ last_pieces))
+    ∙ ap (λ t. joined (known_pieces state.known) ++ t) (flat_map-append piece_text (repos_pieces state.repos) (snapshots_pieces state.snapshots ++ last_pieces)
+    ∙ ap (λ t. joined (repos_pieces state.repos) ++ t) (flat_map-append piece_text (snapshots_pieces state.snapshots) last_pieces))
 
-pub whole_text : (state : StateView) (o x y z : List ℕ) → o ≡ [] → x ≡ o ++ joined (known_pieces state.known) → y ≡ x ++ joined (repos_pieces state.repos) → z ≡ y ++ joined last_pieces → z ≡ root_text state
-whole_text state o x y z n e f g = then_two o x y z _ _ _ e f g ∙ ap (λ t. t ++ (joined (known_pieces state.known) ++ (joined (repos_pieces state.repos) ++ joined last_pieces))) n ∙ sym (root_joined state)
+pub whole_text : (state : StateView) (o w x y z : List ℕ) → o ≡ [] → w ≡ o ++ joined (known_pieces state.known) → x ≡ w ++ joined (repos_pieces state.repos) → y ≡ x ++ joined (snapshots_pieces state.snapshots) → z ≡ y ++ joined last_pieces → z ≡ root_text state
+whole_text state o w x y z n e f g h =
+    then_three o w x y z _ _ _ _ e f g h
+    ∙ ap (λ t. t ++ (joined (known_pieces state.known) ++ (joined (repos_pieces state.repos) ++ (joined (snapshots_pieces state.snapshots) ++ joined last_pieces)))) n ∙ sym (root_joined state)

@@ -7,13 +7,15 @@ use Rattle.package_core.specs.Card.{Card}
 use Rattle.package_core.specs.Order.{package_cmp}
 use Rattle.package_list.specs.Sorted.{AllLess}
 use Rattle.package_list.specs.Lists.{clashes}
-use Rattle.machine_state.specs.declared.limit.Limit.TheVariants.{Repos, Packages, Known, Catalogue, File}
+use Rattle.machine_state.specs.declared.limit.Limit.TheVariants.{Repos, Snapshots, Packages, Known, Catalogue, File}
 use Rattle.machine_state.specs.declared.repo.Repo.{Repo}
+use Rattle.machine_state.specs.declared.snapshot.Snapshot.{Snapshot}
 use Rattle.machine_state.specs.Limits.{limit_number}
-use Rattle.machine_state.specs.State.{IsLineText, IsKnown, name_cmp, text_length}
+use Rattle.machine_state.specs.Named.{name_cmp}
+use Rattle.machine_state.specs.State.{IsLineText, IsKnown, empty, repo_name, snapshot_name, text_length}
 use Rattle.machine_state.specs.Values.{StateView}
 use Rattle.catalogue_text.specs.Pieces.{Piece, alone, packed}
-use Rattle.catalogue_text.specs.Root.{id_of, known_line, repos_line, name_line, comment_line, distribution_line, component_line, set_line}
+use Rattle.catalogue_text.specs.Root.{id_of, known_line, repos_line, name_line, comment_line, distribution_line, component_line, snapshots_line, snapshot_line, set_line}
 
 -- nothing more can stand there
 abbrev pub Ends : {A : Type 0} → A → List Piece → Type 0
@@ -60,16 +62,20 @@ SetPart known Next = Count set_line (limit_number Packages) (λ n. Series n (Nex
 abbrev pub IsName : List ℕ → Type 0
 IsName name = IsTrue (is_name name)
 
--- a name after those of the repositories before it
-abbrev pub IsNext : List Repo → List ℕ → Type 0
-IsNext before name = IsName name × All (λ repo. name_cmp repo name ≡ Less) before
+-- a name after those of the ones before it
+abbrev pub IsNext : {X : Type 0} → (X → List ℕ) → List X → List ℕ → Type 0
+IsNext name_of before name = IsName name × All (λ x. name_cmp name_of x name ≡ Less) before
 
 -- a repository whose name comes after those before it
 unfoldable pub NextRepo : List Card → List Repo → (Repo → List Piece → Type 0) → List Piece → Type 0
 NextRepo known before Next =
-    Line name_line (IsNext before) (λ name. Line comment_line IsLineText (λ comment.
+    Line name_line (IsNext repo_name before) (λ name. Line comment_line IsLineText (λ comment.
     Line distribution_line (λ name. IfSome name IsName) (λ distribution. Line component_line (λ name. IsTrue (is_component name)) (λ component.
     SetPart known (λ list. Next (record { name = name; comment = comment; distribution = distribution; component = component; list = list }))))))
+
+-- a snapshot whose name comes after those before it
+unfoldable pub NextSnapshot : List Card → List Snapshot → (Snapshot → List Piece → Type 0) → List Piece → Type 0
+NextSnapshot known before Next = Line snapshot_line (IsNext snapshot_name before) (λ name. SetPart known (λ list. Next (record { name = name; list = list })))
 
 -- the limits that are kept only at the end: on the length of all package texts, and on the size of each file
 pub record IsWithinLimits (known : List Card) : Type 0 where
@@ -79,7 +85,7 @@ pub record IsWithinLimits (known : List Card) : Type 0 where
 -- the end of a root that knows these packages
 unfoldable pub LastPart : List Card → (Unit {0} → List Piece → Type 0) → List Piece → Type 0
 LastPart known Next =
-    Fixed (codes "snapshots 0") (Fixed (codes "publications 0") (Line (λ u. codes "end") (λ u. IsWithinLimits known) Next))
+    Fixed (codes "publications 0") (Line (λ u. codes "end") (λ u. IsWithinLimits known) Next)
 
 -- the packages of a root
 unfoldable pub KnownPart : (List Card → List Piece → Type 0) → List Piece → Type 0
@@ -91,9 +97,15 @@ unfoldable pub ReposPart : List Card → (List Repo → List Piece → Type 0) �
 ReposPart known Next =
     Fixed (codes "mirrors 0") (Count repos_line (limit_number Repos) (λ n. Series n (NextRepo known) [] Next))
 
+-- the snapshots of a root that knows these packages
+unfoldable pub SnapshotsPart : List Card → (List Snapshot → List Piece → Type 0) → List Piece → Type 0
+SnapshotsPart known Next = Count snapshots_line (limit_number Snapshots) (λ n. Series n (NextSnapshot known) [] Next)
+
 -- a root
 unfoldable pub Root : (StateView → List Piece → Type 0) → List Piece → Type 0
-Root Next = KnownPart (λ known. ReposPart known (λ repos. LastPart known (λ u. Next (record { known = known; repos = repos }))))
+Root Next =
+    KnownPart (λ known. ReposPart known (λ repos. SnapshotsPart known (λ snapshots. LastPart known (λ u.
+    Next (record empty { known = known; repos = repos; snapshots = snapshots })))))
 
 -- these pieces can stand first in a root
 abbrev pub CanStand : List Piece → Type 0

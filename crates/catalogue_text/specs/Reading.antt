@@ -7,9 +7,10 @@ use Rattle.package_core.specs.Card.{Card}
 use Rattle.package_core.specs.Order.{package_cmp}
 use Rattle.package_list.specs.Sorted.{AllLess, IsAscending}
 use Rattle.machine_state.specs.declared.repo.Repo.{Repo}
-use Rattle.machine_state.specs.declared.limit.Limit.TheVariants.{Repos, Packages, Known as KnownCount, Catalogue, File}
+use Rattle.machine_state.specs.declared.snapshot.Snapshot.{Snapshot}
+use Rattle.machine_state.specs.declared.limit.Limit.TheVariants.{Repos, Snapshots, Packages, Known as KnownCount, Catalogue, File}
 use Rattle.machine_state.specs.Limits.{limit_number}
-use Rattle.machine_state.specs.State.{IsKnown, IsLineText, text_length, Valid}
+use Rattle.machine_state.specs.State.{IsKnown, IsLineText, repo_name, snapshot_name, text_length, Valid}
 use Rattle.machine_state.specs.Values.{StateView}
 use Rattle.catalogue_text.specs.declared.known.Known.{Known}
 use Rattle.catalogue_text.specs.declared.stop.Stop.{Stop}
@@ -73,11 +74,16 @@ GoodSet known list = (length list ≤ limit_number Packages) × Each (MayJoin kn
 
 -- a repository as it has to be behind those before it
 pub record GoodRepo (known : List Card) (before : List Repo) (repo : Repo) : Type 0 where
-  pub name : IsNext before repo.name
+  pub name : IsNext repo_name before repo.name
   pub comment : IsLineText repo.comment
   pub distribution : IfSome repo.distribution IsName
   pub component : IsTrue (is_component repo.component)
   pub list : GoodSet known repo.list
+
+-- a snapshot as it has to be behind those before it
+pub record GoodSnapshot (known : List Card) (before : List Snapshot) (snapshot : Snapshot) : Type 0 where
+  pub name : IsNext snapshot_name before snapshot.name
+  pub list : GoodSet known snapshot.list
 
 -- the packages of a root
 abbrev pub GoodKnown : List Card → Type 0
@@ -86,6 +92,10 @@ GoodKnown known = (length known ≤ limit_number KnownCount) × Each (AllLess pa
 -- the repositories of a root that knows these packages
 abbrev pub GoodRepos : List Card → List Repo → Type 0
 GoodRepos known repos = (length repos ≤ limit_number Repos) × Each (GoodRepo known) [] repos
+
+-- the snapshots of a root that knows these packages
+abbrev pub GoodSnapshots : List Card → List Snapshot → Type 0
+GoodSnapshots known snapshots = (length snapshots ≤ limit_number Snapshots) × Each (GoodSnapshot known) [] snapshots
 
 -- a good value stands there by these pieces, and this is the text behind it
 pub record ReadsPart {A : Type 0} (pieces : A → List Piece) (Good : A → Type 0) (text : List ℕ) (a : A) (rest : List ℕ) : Type 0 where

@@ -6,6 +6,7 @@ use Rattle.hex.specs.Hex.{encode_lower}
 use Rattle.sha2.specs.Sha256.{sha256}
 use Rattle.package_core.specs.Card.{Card, package_text}
 use Rattle.machine_state.specs.declared.repo.Repo.{Repo}
+use Rattle.machine_state.specs.declared.snapshot.Snapshot.{Snapshot}
 use Rattle.machine_state.specs.Values.{StateView}
 use Rattle.catalogue_text.specs.Pieces.{Piece, alone, packed, piece_text}
 
@@ -36,6 +37,12 @@ distribution_line name = codes "distribution" ++ blank_and (unwrap_or name [])
 abbrev pub component_line : List ℕ → List ℕ
 component_line name = codes "component " ++ name
 
+abbrev pub snapshots_line : ℕ → List ℕ
+snapshots_line count = codes "snapshots " ++ decimal count
+
+abbrev pub snapshot_line : List ℕ → List ℕ
+snapshot_line name = codes "snapshot " ++ name
+
 abbrev pub set_line : ℕ → List ℕ
 set_line count = codes "set " ++ decimal count
 
@@ -57,12 +64,20 @@ known_pieces known = alone (codes "aptly root 0") ∷ alone (known_line (length 
 unfoldable pub repos_pieces : List Repo → List Piece
 repos_pieces repos = alone (codes "mirrors 0") ∷ alone (repos_line (length repos)) ∷ flat_map repo_pieces repos
 
--- no snapshot, no publication, and the end
+-- a snapshot: its name and its list
+unfoldable pub snapshot_pieces : Snapshot → List Piece
+snapshot_pieces snapshot = alone (snapshot_line snapshot.name) ∷ set_pieces snapshot.list
+
+-- the snapshots: how many they are, and each of them
+unfoldable pub snapshots_pieces : List Snapshot → List Piece
+snapshots_pieces snapshots = alone (snapshots_line (length snapshots)) ∷ flat_map snapshot_pieces snapshots
+
+-- no publication, and the end
 unfoldable pub last_pieces : List Piece
-last_pieces = alone (codes "snapshots 0") ∷ alone (codes "publications 0") ∷ alone (codes "end") ∷ []
+last_pieces = alone (codes "publications 0") ∷ alone (codes "end") ∷ []
 
 unfoldable pub root_pieces : StateView → List Piece
-root_pieces state = known_pieces state.known ++ (repos_pieces state.repos ++ last_pieces)
+root_pieces state = known_pieces state.known ++ (repos_pieces state.repos ++ (snapshots_pieces state.snapshots ++ last_pieces))
 
 -- the text of pieces one behind another
 abbrev pub joined : List Piece → List ℕ

@@ -1,31 +1,19 @@
 //! The repositories of a root.
-ghost use Rattle.std.specs.Prelude.{◌≡◌, ℕ, [], List, All, IfOk, IfErr, IsTrue, ◌↔◌};
-ghost use Rattle.std.specs.declared.cmp.Ordering.TheVariants.{Less};
+ghost use Rattle.std.specs.Prelude.{◌≡◌, ℕ, [], List, IfOk, IfErr};
 ghost use Rattle.machine_state.specs.Ascending.{IsAscending};
-ghost use Rattle.machine_state.specs.State.{name_cmp, repo_cmp};
+ghost use Rattle.machine_state.specs.State.{repo_cmp};
 ghost use Rattle.catalogue_text.specs.Root.{repo_pieces, repos_pieces};
 ghost use Rattle.catalogue_text.specs.Grammar.{Series, NextRepo, ReposPart};
 ghost use Rattle.catalogue_text.specs.Reading.{IfBefore, Stops, ReadsSeries, ReadsPart, Each, GoodRepo, GoodRepos, IsIndexed, IdsApart};
 
 use crate::known::Known;
 use crate::lines::after_line;
+use crate::names::follows;
 use crate::sets::read_set;
 use crate::stop::Stop;
 use crate::values::{comment_line, component_line, count_line, distribution_line, name_line};
-use ap_text::Name;
 use machine_state::{Limit, Repo};
 use std::alloc::Global;
-
-/// Whether a name comes after those of the repositories before it: after that of the last.
-fn follows(done: &[Repo], name: &Name) -> bool
-    requires { IsAscending repo_cmp done.now }
-    ensures { IsTrue result ↔ All (λ repo. name_cmp repo name.now ≡ Less) done.now }
-{
-    match done.split_last() {
-        None => true,
-        Some((before, _)) => before.name.order(name).is_lt(),
-    }
-}
 
 /// A repository that may stand behind those before it, and the text behind it.
 fn read_repo<'a>(

@@ -4,12 +4,12 @@ ghost use Rattle.std.specs.List.{flat_map};
 ghost use Rattle.std.specs.Fmt.{decimal};
 ghost use Rattle.package_core.specs.Card.{package_text};
 ghost use Rattle.catalogue_text.specs.Pieces.{alone, packed, piece_text, package_line};
-ghost use Rattle.catalogue_text.specs.Root.{blank_and, id_of, joined, set_pieces, repo_pieces, known_pieces, repos_pieces, last_pieces, root_pieces, root_text as root_of};
+ghost use Rattle.catalogue_text.specs.Root.{blank_and, id_of, joined, set_pieces, repo_pieces, known_pieces, repos_pieces, snapshot_pieces, snapshots_pieces, last_pieces, root_pieces, root_text as root_of};
 
 use crate::known::id_text;
 use ap_text::Name;
 use control_stanza::Text;
-use machine_state::{Repo, State};
+use machine_state::{Repo, Snapshot, State};
 use package_core::Package;
 use package_list::{PackageList, SharedPackage};
 use std::alloc::{AllocError, Global};
@@ -144,10 +144,36 @@ fn put_repos(alloc: Global, out: &mut String, repos: &[Repo]) -> Result<(), Allo
     put_each(alloc, out, repos)
 }
 
+fn put_snapshot(alloc: Global, out: &mut String, snapshot: &Snapshot) -> Result<(), AllocError>
+    ensures { OnOk result (string_bytes out.new ≡ string_bytes out.old ++ joined (snapshot_pieces snapshot.now)) }
+{
+    put_line(out, "snapshot ", snapshot.name.as_str())?;
+    put_set(alloc, out, &snapshot.list)
+}
+
+fn put_each_snapshot(
+    alloc: Global,
+    out: &mut String,
+    snapshots: &[Snapshot],
+) -> Result<(), AllocError>
+    ensures { OnOk result (string_bytes out.new ≡ string_bytes out.old ++ joined (flat_map snapshot_pieces snapshots.now)) }
+{
+    for snapshot in snapshots {
+        put_snapshot(alloc, out, snapshot)?;
+    }
+    Ok(())
+}
+
+fn put_snapshots(alloc: Global, out: &mut String, snapshots: &[Snapshot]) -> Result<(), AllocError>
+    ensures { OnOk result (string_bytes out.new ≡ string_bytes out.old ++ joined (snapshots_pieces snapshots.now)) }
+{
+    put_count(out, "snapshots ", snapshots.len())?;
+    put_each_snapshot(alloc, out, snapshots)
+}
+
 fn put_last(out: &mut String) -> Result<(), AllocError>
     ensures { OnOk result (string_bytes out.new ≡ string_bytes out.old ++ joined last_pieces) }
 {
-    put_fixed(out, "snapshots 0")?;
     put_fixed(out, "publications 0")?;
     put_fixed(out, "end")
 }
@@ -159,6 +185,7 @@ pub fn root_text(alloc: Global, state: &State) -> Result<Text, AllocError>
     let mut out = String::new(alloc);
     put_known(alloc, &mut out, &state.known)?;
     put_repos(alloc, &mut out, &state.repos)?;
+    put_snapshots(alloc, &mut out, &state.snapshots)?;
     put_last(&mut out)?;
     Text::new(alloc, out.as_str())
 }

@@ -25,6 +25,7 @@ use Rattle.machine_state.specs.Ascending as plain
 use Rattle.machine_state.specs.Limits.{limit_number}
 use Rattle.machine_state.specs.State.{IsRepo, IsKnown, IsNamedList, IsCatalogue, Valid, repo_cmp, repo_of, text_length}
 use Rattle.machine_state.specs.Values.{StateView}
+use Rattle.machine_state.proofs.ValidLemmas.{valid_with}
 use Rattle.local_repo.specs.Arrival.{list_in, list_of}
 use Rattle.local_repo.specs.Fits.{with_more, FitsIn}
 use Rattle.package_intake.specs.Taking.{IsTakenIn, AreTakenIn}
@@ -249,11 +250,10 @@ taken_fits state name ps list v b t g few texts =
     let n : length (map (with_more name list) state.repos) ≡ length state.repos = count_more name list state.repos in
     record {
       whole = by_places IsWhole list (taken_all state.known ps list IsWhole (λ p q h. h.whole) t);
-      valid = record {
-        known = catalogue_more state.known ps list v.known t few texts;
-        repos = by_places IsRepo (map (with_more name list) state.repos) (repos_more name list state.repos (each_of IsRepo state.repos v.repos));
-        lists = by_places (λ (repo : Repo). IsNamedList (union state.known list) repo.list) (map (with_more name list) state.repos) (lists_more state.known ps list name state.repos v.known.sorted b t v.sorted (each_of (λ (repo : Repo). IsNamedList state.known repo.list) state.repos v.lists) (appends (list_of state name) list g));
-        sorted = sorted_more name list state.repos v.sorted;
-        few = omega (arith, n, v.few);
-      };
+      valid = valid_with state (union state.known list) (map (with_more name list) state.repos) v (catalogue_more state.known ps list v.known t few texts) (record {
+        each = by_places IsRepo (map (with_more name list) state.repos) (repos_more name list state.repos (each_of IsRepo state.repos v.repos.each));
+        lists = by_places (λ (repo : Repo). IsNamedList (union state.known list) repo.list) (map (with_more name list) state.repos) (lists_more state.known ps list name state.repos v.known.sorted b t v.repos.sorted (each_of (λ (repo : Repo). IsNamedList state.known repo.list) state.repos v.repos.lists) (appends (list_of state name) list g));
+        sorted = sorted_more name list state.repos v.repos.sorted;
+        few = omega (arith, n, v.repos.few);
+      }) (λ p. known_more state.known list p v.known.sorted);
     }

@@ -124,12 +124,12 @@ list_more state name list repo e = with_more_named name list repo (found_name na
 -- a list that fits isn't too long with what was there
 pub fits_own : (state : StateView) (name : List ℕ) (list : List Card) (repo : Repo) → FitsIn state name list → repo_of name state.repos ≡ Some repo → length (lists.union repo.list list) ≤ MOST_KNOWN
 fits_own state name list repo f e =
-    let named = found_holds (λ q. IsNamedList (lists.union state.known list) q.list) name (map (with_more name list) state.repos) (with_more name list repo) f.valid.lists (found_more name list state.repos repo e) in
+    let named = found_holds (λ q. IsNamedList (lists.union state.known list) q.list) name (map (with_more name list) state.repos) (with_more name list repo) f.valid.repos.lists (found_more name list state.repos repo e) in
     omega (arith, named.few, ap length (list_more state name list repo e))
 
 -- the repositories of a state that fits have lists that aren't too long
 pub fits_all : (state : StateView) (name : List ℕ) (list : List Card) → FitsIn state name list → All (λ repo. length repo.list ≤ MOST_KNOWN) (map (with_more name list) state.repos)
-fits_all state name list f k d l = let named = f.valid.lists k d l in omega (arith, named.few)
+fits_all state name list f k d l = let named = f.valid.repos.lists k d l in omega (arith, named.few)
 
 pub at_member : {X Y : Type 0} (P : Y → Type 0) (f : X → Y) (xs : List X) (i : ℕ) (x : X) → All P (map f xs) → i < length xs → x ≡ get_or xs i x → P (f x)
 at_member P f xs i x all l e =
@@ -151,7 +151,7 @@ added_new state name list repo e more same = more (omega (arith, lengths))
 pub nothing_new : (state : StateView) (name : List ℕ) (list : List Card) (repo : Repo) → Valid state → repo_of name state.repos ≡ Some repo → length (lists.union repo.list list) - length repo.list ≡ 0 → All (λ p. IsTrue (lists.has_member (list_of state name) p)) list
 nothing_new state name list repo v e none =
     subst (λ (own : List Card). All (λ p. IsTrue (lists.has_member own p)) list) (ap list_in (sym e))
-    (all_had package_total repo.list list (found_holds (λ q. IsNamedList state.known q.list) name state.repos repo v.lists e).sorted (omega (arith, none)))
+    (all_had package_total repo.list list (found_holds (λ q. IsNamedList state.known q.list) name state.repos repo v.repos.lists e).sorted (omega (arith, none)))
 
 -- what an addition comes to, in terms of the repository's list
 pub taken_reply : (state : StateView) (name reply : List ℕ) (list : List Card) (repo : Repo) (k n : ℕ) → repo_of name state.repos ≡ Some repo

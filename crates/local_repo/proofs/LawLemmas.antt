@@ -74,11 +74,11 @@ repos_same known name list (r ∷ rs) s n h = by_test (bytes_eq r.name name) ref
 
 pub added_same : (state : StateView) (name : List ℕ) (list : List Card) → Valid state → All (λ p. IsTrue (has_member (list_of state name) p)) list → added state name list ≡ state
 added_same state name list v h =
-    let lists = each_of (λ (repo : Repo). IsNamedList state.known repo.list) state.repos v.lists in
+    let lists = each_of (λ (repo : Repo). IsNamedList state.known repo.list) state.repos v.repos.lists in
     let has = each_of (λ p. has_member (list_of state name) p ≡ true) list h in
     let known = union_has state.known list v.known.sorted (all_map (λ p. has_member (list_of state name) p ≡ true) (λ p. has_member state.known p ≡ true) (λ p g. known_has state.known (list_of state name) p (own_known state.known name state.repos lists) g) list has) in
-    let repos = repos_same state.known name list state.repos v.sorted lists has in
-    (λ i. record { known = known i; repos = repos i })
+    let repos = repos_same state.known name list state.repos v.repos.sorted lists has in
+    (λ i. record state { known = known i; repos = repos i })
 
 -- ---- what was taken
 record Made (p made : Card) : Type 0 where

@@ -24,6 +24,7 @@ use Rattle.machine_state.specs.State.{Valid, IsRepo, IsNamedList, repo_cmp, repo
 use Rattle.machine_state.specs.Values.{StateView}
 use Rattle.machine_state.proofs.AscendingLemmas.{put_ascending}
 use Rattle.machine_state.proofs.RepoLemmas.{repo_total}
+use Rattle.machine_state.proofs.ValidLemmas.{valid_with}
 use Rattle.reply_text.specs.Words.{line}
 use Rattle.reply_text.specs.Replies as replies
 use Rattle.step_model.specs.Case.{Came, changes, refuses, or_else, plain_case}
@@ -124,13 +125,12 @@ new_list_good : (known : List Card) (name : List ℕ) → IsNamedList known (new
 new_list_good known name = record { sorted = tt; apart = refl; listed = λ k d l. absurd (omega arith); few = omega arith }
 
 valid_more : (state : StateView) (name : List ℕ) → Valid state → is_name name ≡ true → length state.repos < 10000 → Valid (record state { repos = put repo_cmp (new_repo name) state.repos })
-valid_more state name v e few = record {
-  known = v.known;
-  repos = all_put IsRepo (new_repo name) state.repos (new_repo_good name e) v.repos;
-  lists = all_put (λ repo. IsNamedList state.known repo.list) (new_repo name) state.repos (new_list_good state.known name) v.lists;
-  sorted = put_ascending repo_total (new_repo name) state.repos v.sorted;
+valid_more state name v e few = valid_with state state.known (put repo_cmp (new_repo name) state.repos) v v.known (record {
+  each = all_put IsRepo (new_repo name) state.repos (new_repo_good name e) v.repos.each;
+  lists = all_put (λ repo. IsNamedList state.known repo.list) (new_repo name) state.repos (new_list_good state.known name) v.repos.lists;
+  sorted = put_ascending repo_total (new_repo name) state.repos v.repos.sorted;
   few = let n = length_put (new_repo name) state.repos in omega arith;
-}
+}) (λ p known. known)
 
 name_good : (more : Option Refusal) (name : List ℕ) → or_else (bad_name name) more ≡ None → is_name name ≡ true
 name_good more name = by_name (is_name name) refl

@@ -17,7 +17,7 @@ with_more name list repo = if bytes_eq repo.name name then record repo { list = 
 
 -- The state with a list added to a repository, and known. Of two equal packages the one that was there stays.
 abbrev pub added : StateView → List ℕ → List Card → StateView
-added state name list = record { known = union state.known list; repos = map (with_more name list) state.repos }
+added state name list = record state { known = union state.known list; repos = map (with_more name list) state.repos }
 
 -- the packages are whole, and the state that they are added to stays valid
 pub record FitsIn (state : StateView) (name : List ℕ) (list : List Card) : Type 0 where

@@ -81,7 +81,7 @@ fn state_with(
 {
     let known = joined(alloc, &state.known, list)?;
     let repos = all_with_more(alloc, name, list, &state.repos)?;
-    Ok(State { known, repos })
+    Ok(state.with_repos(alloc, known, repos)?)
 }
 
 /// Adds what arrived to the repository. Where it has all of it the state stays as it was.

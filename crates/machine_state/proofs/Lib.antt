@@ -1,2 +1,5 @@
 pub mod AscendingLemmas
+pub mod KeyLemmas
+pub mod PlaceLemmas
 pub mod RepoLemmas
+pub mod ValidLemmas

@@ -1,4 +1,9 @@
 pub mod Ascending
 pub mod Limits
+pub mod Named
 pub mod Values
+pub mod Texts
+pub mod Lists
+pub mod Mirrors
+pub mod Publications
 pub mod State

@@ -1,86 +1,108 @@
--- Which states are valid.
-use Rattle.std.specs.Prelude.{◌≡◌, ◌≤◌, ℕ, ◌+◌, ◌-◌, Bool, not, ◌&&◌, ◌==◌, nat_le, List, [], ◌∷◌, length, slice_index, Option, Some, IsTrue, IsFalse, IfSome, All, find}
-use Rattle.std.specs.List.{list_all}
-use Rattle.std.specs.Str.{IsUtf8, bytes_eq}
-use Rattle.std.specs.Ordering.{nat_cmp}
+-- Which states are valid, and what is found in a state.
+use Rattle.std.specs.Prelude.{◌≡◌, ℕ, Bool, false, ◌&&◌, List, [], Option, is_some, IsTrue, All, find}
+use Rattle.std.specs.Option.{option_cmp, option_eq}
+use Rattle.std.specs.Str.{bytes_eq}
+use Rattle.std.specs.Ordering.{nat_cmp, ordering_then}
 use Rattle.std.specs.Cmp.Lexicographic.{slice_cmp}
 use Rattle.std.specs.declared.cmp.Ordering.{Ordering}
-use Rattle.ap_text.specs.Names.{is_name, is_component}
-use Rattle.package_core.specs.Card.{Card, package_text}
-use Rattle.package_core.specs.Whole.{IsWhole}
-use Rattle.package_core.specs.Order.{package_cmp}
-use Rattle.package_list.specs.Sorted.{equal_of}
-use Rattle.package_list.specs.Sorted as sorted
-use Rattle.package_list.specs.Lists.{has_clash}
-use Rattle.machine_state.specs.declared.limit.Limit.TheVariants.{Repos, Packages, Known, Catalogue, File}
+use Rattle.package_core.specs.Card.{Card}
+use Rattle.machine_state.specs.declared.limit.Kind.{Kind}
+use Rattle.machine_state.specs.declared.limit.Kind.TheVariants as kinds
+use Rattle.machine_state.specs.declared.limit.Limit.TheVariants.{Mirrors, Repos, Snapshots, Publications}
 use Rattle.machine_state.specs.declared.repo.Repo.{Repo}
-use Rattle.machine_state.specs.Ascending.{IsAscending}
+use Rattle.machine_state.specs.declared.snapshot.Snapshot.{Snapshot}
 use Rattle.machine_state.specs.Limits.{limit_number}
-use Rattle.machine_state.specs.Values.{StateView}
+use Rattle.machine_state.specs.Lists.{KindValid}
+use Rattle.machine_state.specs.Mirrors.{IsMirror, MirrorLists, RepoLists, SnapshotLists}
+use Rattle.machine_state.specs.Named.{named_cmp, named}
+use Rattle.machine_state.specs.Publications.{IsPublication, PublicationLists}
+use Rattle.machine_state.specs.Values.{MirrorView, PublicationView, StateView}
+pub use Rattle.machine_state.specs.Lists.{IsKnown, IsNamedList, IsCatalogue, text_length}
+pub use Rattle.machine_state.specs.Mirrors.{IsRepo, IsSnapshot}
+pub use Rattle.machine_state.specs.Texts.{is_line, is_line_byte, IsLineText}
 
--- a byte of a line of text: neither a control character nor DEL
-abbrev pub is_line_byte : ℕ → Bool
-is_line_byte b = nat_le 32 b && not (b == 127)
+-- ---- what is found
+abbrev pub mirror_name : MirrorView → List ℕ
+mirror_name mirror = mirror.name
 
--- at most 200 such bytes, with no blank at either end
-abbrev pub is_line : List ℕ → Bool
-is_line text = nat_le (length text) 200 && list_all is_line_byte text && not (slice_index text 0 == 32) && not (slice_index text (length text - 1) == 32)
+abbrev pub repo_name : Repo → List ℕ
+repo_name repo = repo.name
 
--- a line of text
-pub record IsLineText (text : List ℕ) : Type 0 where
-  pub line : IsTrue (is_line text)
-  pub utf8 : IsUtf8 text
+abbrev pub snapshot_name : Snapshot → List ℕ
+snapshot_name snapshot = snapshot.name
 
--- the settings of a repository are as they have to be
-pub record IsRepo (repo : Repo) : Type 0 where
-  pub name : IsTrue (is_name repo.name)
-  pub comment : IsLineText repo.comment
-  pub distribution : IfSome repo.distribution (λ name. IsTrue (is_name name))
-  pub component : IsTrue (is_component repo.component)
-
--- repositories are ordered by the bytes of their names
-abbrev pub name_cmp : Repo → List ℕ → Ordering
-name_cmp repo name = slice_cmp nat_cmp repo.name name
+-- mirrors, repositories and snapshots are each in the order of their names
+abbrev pub mirror_cmp : MirrorView → MirrorView → Ordering
+mirror_cmp = named_cmp mirror_name
 
 abbrev pub repo_cmp : Repo → Repo → Ordering
-repo_cmp a b = name_cmp a b.name
+repo_cmp = named_cmp repo_name
 
--- the package is known, with the size and the digests that are known
-abbrev pub IsKnown : List Card → Card → Type 0
-IsKnown known p = equal_of package_cmp known p ≡ Some p
+abbrev pub snapshot_cmp : Snapshot → Snapshot → Ordering
+snapshot_cmp = named_cmp snapshot_name
 
--- a list of packages by name, of a state that knows these
-pub record IsNamedList (known list : List Card) : Type 0 where
-  pub sorted : sorted.IsAscending package_cmp list
-  pub apart : IsFalse (has_clash list)
-  pub listed : All (IsKnown known) list
-  pub few : length list ≤ limit_number Packages
+-- the mirror, the repository, the snapshot of that name
+abbrev pub mirror_of : List ℕ → List MirrorView → Option MirrorView
+mirror_of = named mirror_name
 
--- the length of the texts of these packages together
-abbrev pub text_length : List Card → ℕ
-text_length [] = 0
-text_length (p ∷ ps) = length (package_text p) + text_length ps
+abbrev pub repo_of : List ℕ → List Repo → Option Repo
+repo_of = named repo_name
 
--- the packages that a state knows
-pub record IsCatalogue (known : List Card) : Type 0 where
-  pub packages : All IsWhole known
-  pub sorted : sorted.IsAscending package_cmp known
-  pub few : length known ≤ limit_number Known
-  pub files : All (λ p. p.said.size ≤ limit_number File) known
-  pub texts : text_length known ≤ limit_number Catalogue
+abbrev pub snapshot_of : List ℕ → List Snapshot → Option Snapshot
+snapshot_of = named snapshot_name
 
--- a valid state: repositories sorted by name, no name twice, not too many, each as it has to be, and all that they list known
+-- how a publication stands to a place: by the prefix, where none comes first, and then by the distribution
+abbrev pub place_cmp : PublicationView → Option (List ℕ) → List ℕ → Ordering
+place_cmp publication prefix dist = ordering_then (option_cmp (slice_cmp nat_cmp) publication.prefix prefix) (slice_cmp nat_cmp publication.dist dist)
+
+abbrev pub publication_cmp : PublicationView → PublicationView → Ordering
+publication_cmp a b = place_cmp a b.prefix b.dist
+
+-- the publication of that prefix and distribution
+abbrev pub publication_of : Option (List ℕ) → List ℕ → List PublicationView → Option PublicationView
+publication_of prefix dist publications = find (λ publication. option_eq bytes_eq publication.prefix prefix && bytes_eq publication.dist dist) publications
+
+-- ---- when a state is valid
+abbrev pub AreMirrors : List Card → List MirrorView → Type 0
+AreMirrors known = KindValid IsMirror (MirrorLists known) mirror_cmp (limit_number Mirrors)
+
+abbrev pub AreRepos : List Card → List Repo → Type 0
+AreRepos known = KindValid IsRepo (RepoLists known) repo_cmp (limit_number Repos)
+
+abbrev pub AreSnapshots : List Card → List Snapshot → Type 0
+AreSnapshots known = KindValid IsSnapshot (SnapshotLists known) snapshot_cmp (limit_number Snapshots)
+
+abbrev pub ArePublications : List Card → List PublicationView → Type 0
+ArePublications known = KindValid IsPublication (PublicationLists known) publication_cmp (limit_number Publications)
+
+-- the state has what a publication of this kind names as a source
+abbrev pub has_source : StateView → Kind → List ℕ → Bool
+has_source state kinds.Repo name = is_some (repo_of name state.repos)
+has_source state kinds.Snapshot name = is_some (snapshot_of name state.snapshots)
+has_source state kinds.Mirror name = false
+has_source state kinds.Component name = false
+
+-- each source of the publication is there
+abbrev pub HasSources : StateView → PublicationView → Type 0
+HasSources state publication = All (λ source. IsTrue (has_source state publication.kind source.1)) publication.sources
+
+-- There is none of the kinds that the root text doesn't carry yet; otherwise two valid states would have one text. A kind leaves
+-- this record when its part of the root text is written.
+pub record IsStored (state : StateView) : Type 0 where
+  pub mirrors : state.mirrors ≡ []
+  pub publications : state.publications ≡ []
+
+-- A valid state: all that is said of its known packages, and of each kind by itself; the sources of publications are there. What
+-- published files have to be is said beside the published tree.
 pub record Valid (state : StateView) : Type 0 where
   pub known : IsCatalogue state.known
-  pub repos : All IsRepo state.repos
-  pub lists : All (λ repo. IsNamedList state.known repo.list) state.repos
-  pub sorted : IsAscending repo_cmp state.repos
-  pub few : length state.repos ≤ limit_number Repos
+  pub mirrors : AreMirrors state.known state.mirrors
+  pub repos : AreRepos state.known state.repos
+  pub snapshots : AreSnapshots state.known state.snapshots
+  pub publications : ArePublications state.known state.publications
+  pub sources : All (HasSources state) state.publications
+  pub stored : IsStored state
 
 -- the state of an empty store
 abbrev pub empty : StateView
-empty = record { known = []; repos = [] }
-
--- the repository of that name
-abbrev pub repo_of : List ℕ → List Repo → Option Repo
-repo_of name repos = find (λ repo. bytes_eq repo.name name) repos
+empty = record { known = []; mirrors = []; repos = []; snapshots = []; publications = [] }

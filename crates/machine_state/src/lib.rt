@@ -3,14 +3,25 @@
 
 mod arrived;
 mod change;
+mod copied;
+mod fetched;
 mod limit;
+mod mirror;
+mod named;
+mod publication;
 mod refusal;
 mod repo;
+mod snapshot;
 mod state;
 
 pub use arrived::{Arrived, UpdateFault};
 pub use change::{Change, ChangeFault};
+pub use fetched::Fetched;
 pub use limit::{Kind, Limit};
+pub use mirror::Mirror;
+pub use named::{Named, find_named, place_of_name};
+pub use publication::{Generation, Publication, place_of_publication};
 pub use refusal::Refusal;
 pub use repo::{Repo, place_of_repo};
+pub use snapshot::Snapshot;
 pub use state::State;

@@ -2,6 +2,7 @@
 ghost use Rattle.std.specs.Prelude.{◌≡◌, IfOk};
 ghost use Rattle.machine_state.specs.declared.refusal.Refusal.TheVariants.{InUse, AlreadyPublished, NotPublished, InputMismatch};
 
+use crate::copied::copy_optional;
 use crate::limit::{Kind, Limit};
 use ap_text::{Name, SafePath};
 use control_stanza::Text;
@@ -150,15 +151,6 @@ impl Refusal {
     }
 }
 
-fn copy_prefix(alloc: Global, prefix: &Option<SafePath>) -> Result<Option<SafePath>, AllocError>
-    ensures { IfOk result (λ copied. copied ≡ prefix.now) }
-{
-    match prefix {
-        None => Ok(None),
-        Some(path) => Ok(Some(path.copy(alloc)?)),
-    }
-}
-
 fn in_use(
     alloc: Global,
     kind: Kind,
@@ -171,7 +163,7 @@ fn in_use(
     Ok(Refusal::InUse {
         kind,
         name: name.copy(alloc)?,
-        prefix: copy_prefix(alloc, prefix)?,
+        prefix: copy_optional(alloc, prefix)?,
         dist: dist.copy(alloc)?,
     })
 }
@@ -184,7 +176,7 @@ fn already_published(
     ensures { IfOk result (λ made. made ≡ AlreadyPublished prefix.now dist.now) }
 {
     Ok(Refusal::AlreadyPublished {
-        prefix: copy_prefix(alloc, prefix)?,
+        prefix: copy_optional(alloc, prefix)?,
         dist: dist.copy(alloc)?,
     })
 }
@@ -197,7 +189,7 @@ fn not_published(
     ensures { IfOk result (λ made. made ≡ NotPublished prefix.now dist.now) }
 {
     Ok(Refusal::NotPublished {
-        prefix: copy_prefix(alloc, prefix)?,
+        prefix: copy_optional(alloc, prefix)?,
         dist: dist.copy(alloc)?,
     })
 }

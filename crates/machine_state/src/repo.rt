@@ -1,10 +1,11 @@
 //! Local repositories.
 ghost use Rattle.std.specs.Prelude.{◌≡◌, IfOk, length};
 ghost use Rattle.std.specs.List.Sorted.{IsSearchInRange, IsBinarySearchResult};
-ghost use Rattle.std.specs.Option.{option_copied};
-ghost use Rattle.machine_state.specs.Ascending.{IsAscending};
-ghost use Rattle.machine_state.specs.State.{repo_cmp, name_cmp, repo_of};
+ghost use Rattle.machine_state.specs.Named.{name_cmp};
+ghost use Rattle.machine_state.specs.State.{repo_name};
 
+use crate::copied::{Copied, copy_optional};
+use crate::named::{Named, place_of_name};
 use ap_text::Name;
 use control_stanza::Text;
 use package_list::PackageList;
@@ -40,38 +41,24 @@ impl Repo {
     }
 }
 
-fn copy_optional(alloc: Global, name: &Option<Name>) -> Result<Option<Name>, AllocError>
-    ensures { IfOk result (λ copied. copied ≡ name.now) }
-{
-    match name {
-        None => Ok(None),
-        Some(name) => Ok(Some(name.copy(alloc)?)),
+impl Named for Repo {
+    ghost name_of = { λ repo. repo.name };
+
+    fn name(&self) -> &Name {
+        &self.name
     }
 }
 
-pub(crate) fn find_repo<'a>(repos: &'a [Repo], name: &Name) -> Option<&'a Repo>
-    ensures { IsAscending repo_cmp repos.now → option_copied result ≡ repo_of name.now repos.now }
-{
-    match place_of_repo(repos, name) {
-        Ok(place) => Some(&repos[place]),
-        Err(_) => None,
+impl Copied for Repo {
+    fn copied(&self, alloc: Global) -> Result<Repo, AllocError> {
+        self.copy(alloc)
     }
-}
-
-pub(crate) fn copy_repos(alloc: Global, repos: &[Repo]) -> Result<Vec<Repo>, AllocError>
-    ensures { IfOk result (λ copies. copies.items ≡ repos.now) }
-{
-    let mut copies = Vec::new(alloc);
-    for repo in repos {
-        copies.push(repo.copy(alloc)?)?;
-    }
-    Ok(copies)
 }
 
 /// Where the repository of that name stands, or where a new one would go.
 pub fn place_of_repo(repos: &[Repo], name: &Name) -> Result<usize, usize>
-    ensures found { IsBinarySearchResult (λ repo. name_cmp repo name.now) repos.now result }
+    ensures found { IsBinarySearchResult (λ repo. name_cmp repo_name repo name.now) repos.now result }
     ensures bound { IsSearchInRange result (length repos.now) }
 {
-    repos.binary_search_by(|repo| repo.name.order(name))
+    place_of_name(repos, name)
 }

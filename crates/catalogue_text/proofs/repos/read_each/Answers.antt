@@ -1,16 +1,16 @@
 use Rattle.std.proofs.Common.{[], List, sym, subst, arith}
 use Rattle.machine_state.specs.declared.repo.Repo.{Repo}
 use Rattle.machine_state.specs.Ascending.{IsAscending}
-use Rattle.machine_state.specs.State.{repo_cmp}
+use Rattle.machine_state.specs.State.{repo_name, repo_cmp}
 use Rattle.catalogue_text.specs.Root.{repo_pieces}
 use Rattle.catalogue_text.specs.Grammar.{NextRepo}
 use Rattle.catalogue_text.specs.Reading.{Stops, GoodRepo}
-use Rattle.catalogue_text.proofs.RootTexts.{names_each}
+use Rattle.catalogue_text.proofs.ValidLemmas.{names_each}
 use Rattle.catalogue_text.proofs.ReadLemmas.{reads_more, stops_repos, if_before}
 use Rattle.catalogue_text.proofs.repos.read_each.Goals as goal
 
 pub read_repo-requires-clause-sorted : goal.read_repo-requires-clause-sorted
-read_repo-requires-clause-sorted c = subst (IsAscending repo_cmp) (sym c.deref.ensures.value) (names_each c.args.known.now.list [] c.loop-read.repos.items tt c.loop-read.invariant.good)
+read_repo-requires-clause-sorted c = subst (IsAscending repo_cmp) (sym c.deref.ensures.value) (names_each repo_name (GoodRepo c.args.known.now.list) (λ done x g. g.name.1) [] c.loop-read.repos.items tt c.loop-read.invariant.good)
 
 pub returns-in-Err-clause-stops : goal.returns-in-Err-clause-stops
 returns-in-Err-clause-stops c =

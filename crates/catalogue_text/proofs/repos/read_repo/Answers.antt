@@ -1,4 +1,5 @@
-use Rattle.machine_state.specs.State.{IsLineText}
+use Rattle.std.proofs.Common.{codes}
+use Rattle.machine_state.specs.State.{IsLineText, repo_name}
 use Rattle.catalogue_text.specs.Root.{name_line, comment_line, distribution_line, component_line}
 use Rattle.catalogue_text.specs.Grammar.{IsNext}
 use Rattle.catalogue_text.proofs.Parts.{stops_line}
@@ -9,12 +10,12 @@ use Rattle.catalogue_text.proofs.repos.read_repo.Goals as goal
 
 pub returns-in_default-clause-stops : goal.returns-in_default-clause-stops
 returns-in_default-clause-stops c = λ apart.
-    at_name c.args.known.now.list c.args.done.now c.args.text.now _ (stops_line name_line (IsNext c.args.done.now) c.args.text.now (λ a behind g l. at_default _ _ _ c.in_ok-name.ensures c.in_default.not-Some a behind g.0 l))
+    at_name c.args.known.now.list c.args.done.now c.args.text.now _ (stops_line name_line (IsNext repo_name c.args.done.now) c.args.text.now (λ a behind g l. at_default _ _ _ c.in_ok-name.ensures c.in_default.not-Some a behind g.0 l))
 
 pub returns-then-not-follows-clause-stops : goal.returns-then-not-follows-clause-stops
 returns-then-not-follows-clause-stops c = λ apart.
     let n = at_some _ _ _ _ c.in_ok-name.ensures c.in-Some.is in
-    at_name c.args.known.now.list c.args.done.now c.args.text.now _ (stops_line name_line (IsNext c.args.done.now) c.args.text.now (not_next c.args.known.now.list c.args.done.now c.args.text.now c.in-Some.behind.now c.in-Some.name c.follows.result c.if-not-follows.true c.follows.ensures n.1))
+    at_name c.args.known.now.list c.args.done.now c.args.text.now _ (stops_line name_line (IsNext repo_name c.args.done.now) c.args.text.now (not_next repo_name (codes "repo ") c.args.done.now c.args.text.now c.in-Some.behind.now c.in-Some.name c.follows.result c.if-not-follows.true c.follows.ensures n.1))
 
 pub returns-in_default-2-clause-stops : goal.returns-in_default-2-clause-stops
 returns-in_default-2-clause-stops c = λ apart.

@@ -1,7 +1,7 @@
 use Rattle.catalogue_text.specs.Root.{last_pieces}
-use Rattle.catalogue_text.proofs.WriteLemmas.{three}
+use Rattle.catalogue_text.proofs.WriteLemmas.{two}
 use Rattle.catalogue_text.proofs.write.put_last.Goals as goal
 
 pub returns : goal.returns
 unfolding last_pieces
-returns c = three _ _ _ _ _ _ _ _ c.in_ok-put_fixed.ensures c.in_ok-put_fixed-2.ensures c.put_fixed-3.ensures
+returns c = two _ _ _ _ _ _ c.in_ok-put_fixed.ensures c.put_fixed-2.ensures

@@ -41,7 +41,7 @@ returns-in_err-list-clause-told g c valid small =
     let folder = c.args.folder.now in
     let entries = c.in_ok-entries.entries.items in
     let fault = c.in_err-list.field-0.0 in
-    let own : list_in (option_copied c.repo-own.result) ≡ list_of state name = ap list_in (c.repo-own.ensures valid.sorted) in
+    let own : list_in (option_copied c.repo-own.result) ≡ list_of state name = ap list_in (c.repo-own.ensures valid.repos.sorted) in
     let known : c.state.inside.known ≡ state.known = ap (λ (s : StateView). s.known) c.state.view_is in
     let catalogue : IsCatalogue c.state.inside.known = subst IsCatalogue (sym known) valid.known in
     fault_comes (g.I.Inbox.map c.args.inbox.now) state name folder c.from_residual-in_err-list.result e.0 fault e.1 e.2 c.in_err-list.ensures.fault
@@ -51,7 +51,7 @@ returns-in_err-list-clause-told g c valid small =
 pub returns-clause-fits : goal.returns-clause-fits
 returns-clause-fits g c valid =
     let state : StateView = c.args.state.now in
-    let own : list_in (option_copied c.repo-own.result) ≡ list_of state c.args.repo.now = ap list_in (c.repo-own.ensures valid.sorted) in
+    let own : list_in (option_copied c.repo-own.result) ≡ list_of state c.args.repo.now = ap list_in (c.repo-own.ensures valid.repos.sorted) in
     let known : c.state.inside.known ≡ state.known = ap (λ (s : StateView). s.known) c.state.view_is in
     let catalogue : IsCatalogue c.state.inside.known = subst IsCatalogue (sym known) valid.known in
     fitting_fits state c.args.repo.now (list_in (option_copied c.repo-own.result)) c.in_ok-list.list valid own
@@ -63,7 +63,7 @@ returns-clause-told g c valid small =
     let name = c.args.repo.now in
     let folder = c.args.folder.now in
     let entries = c.in_ok-entries.entries.items in
-    let own : list_in (option_copied c.repo-own.result) ≡ list_of state name = ap list_in (c.repo-own.ensures valid.sorted) in
+    let own : list_in (option_copied c.repo-own.result) ≡ list_of state name = ap list_in (c.repo-own.ensures valid.repos.sorted) in
     let known : c.state.inside.known ≡ state.known = ap (λ (s : StateView). s.known) c.state.view_is in
     let catalogue : IsCatalogue c.state.inside.known = subst IsCatalogue (sym known) valid.known in
     let fits : FitsIn state name c.in_ok-list.list = fitting_fits state name (list_in (option_copied c.repo-own.result)) c.in_ok-list.list valid own

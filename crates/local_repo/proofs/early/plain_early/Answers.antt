@@ -16,4 +16,4 @@ returns-in_err-place-clause-fault c = λ v.
     let text = c.args.text.now in
     at_exit c.from_residual-in_err-place.result fault _ c.from_residual-in_err-place.ensures.1
     (second_decides (bad_name text) (taken c.args.state.now.repos text) fault c.in_ok-name.ensures.good
-    (taken_along _ _ _ _ fault same c.in_ok-name.ensures.same (c.in_err-place.ensures.fault (subst (IsAscending repo_cmp) (sym same) v.sorted))))
+    (taken_along _ _ _ _ fault same c.in_ok-name.ensures.same (c.in_err-place.ensures.fault (subst (IsAscending repo_cmp) (sym same) v.repos.sorted))))

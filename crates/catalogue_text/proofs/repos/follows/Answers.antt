@@ -1,5 +1,0 @@
-use Rattle.catalogue_text.proofs.ReadLemmas.{follows_last}
-use Rattle.catalogue_text.proofs.repos.follows.Goals as goal
-
-pub returns-in-Some : goal.returns-in-Some
-returns-in-Some c = follows_last _ _ c.args.done.now c.in-Some.field-0-1.now c.in-Some.before.now c.args.name.now c.requires c.in-Some.ensures.cases.0 c.is_lt.ensures c.order.ensures
