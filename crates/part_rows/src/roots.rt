@@ -2,7 +2,7 @@
 
 use crate::answers::{Answer, reply};
 use catalogue_text::{RootFault, read_root, root_text};
-use machine_state::{Repo, State};
+use machine_state::{Repo, Snapshot, State};
 use row_table::{Desk, Stop, put, put_at};
 use std::alloc::AllocError;
 
@@ -14,10 +14,19 @@ fn put_repos(out: &mut String, repos: &[Repo]) -> Result<(), AllocError> {
     Ok(())
 }
 
-/// How many packages are known, the repositories, and whether the state's text is this one.
+fn put_snapshots(out: &mut String, snapshots: &[Snapshot]) -> Result<(), AllocError> {
+    for snapshot in snapshots {
+        put(out, &[", snapshot ", snapshot.name.as_str()])?;
+        put_at(out, " of ", snapshot.list.len() as u64)?;
+    }
+    Ok(())
+}
+
+/// How many packages are known, the repositories, the snapshots, and whether the state's text is this one.
 fn put_state(out: &mut String, state: &State, text: &[u8]) -> Result<(), AllocError> {
     put_at(out, "known ", state.known.len() as u64)?;
     put_repos(out, &state.repos)?;
+    put_snapshots(out, &state.snapshots)?;
     let again = root_text(*out.allocator(), state)?;
     if again.as_str().as_bytes() != text {
         out.push_str(", written otherwise")?;
