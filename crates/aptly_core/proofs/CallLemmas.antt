@@ -19,7 +19,7 @@ use Rattle.run_model.proofs.Opens.{opened_then_ran, broke_opening, begun}
 use Rattle.run_model.proofs.Says.{image_said, live_said}
 use Rattle.catalogue_root.specs.declared.damage.LoadFault.{LoadFault}
 use Rattle.catalogue_root.specs.declared.damage.LoadFault.TheVariants as faults
-use Rattle.command_words.specs.Plain.{PlainCommand, db_cleanup}
+use Rattle.command_words.specs.Plain.{PlainCommand, of_other, db_cleanup}
 use Rattle.command_words.specs.Commands as words_spell
 use Rattle.command_words.specs.Commands.{IsUsagePlace}
 use Rattle.stage_file.specs.Stage.{StageState, is_staged}
@@ -257,7 +257,7 @@ one_list : (words : List (List ℕ)) (cs ds : List PlainCommand) → asked words
 one_list words cs ds a b = let same : Some cs ≡ Some ds = sym a ∙ b in cc
 
 no_list : {A : Type 0} (words : List (List ℕ)) (cs : List PlainCommand) → asked words ≡ Some cs → words_spell.commands words ≡ None → A
-no_list words cs a b = absurd (let no : Some cs ≡ None = sym a ∙ ap (option_map (λ commands. if words_spell.is_first (codes "demo") words then db_cleanup ∷ [] else commands)) b in cc)
+no_list words cs a b = absurd (let no : Some cs ≡ None = sym a ∙ ap (option_map (λ commands. if words_spell.is_first (codes "demo") words then of_other db_cleanup ∷ [] else commands)) b in cc)
 
 -- words that spell commands
 module _ (given : Given) (Told : Option (List ℕ) → Type 0) (words : List (List ℕ)) (cs : List PlainCommand) (found : asked words ≡ Some cs) (HostRose InboxRose : Type 0) (status : Status) (host : status ≡ HostFault → HostRose) (inbox : status ≡ InboxFault → InboxRose) (l : Log) (ops : List Op) (w : Called given Told cs status l ops) where
@@ -397,12 +397,12 @@ pub law_of_empty_store : LawOfEmptyStore
 law_of_empty_store = begun store (λ path. None) empty empty_open
 
 -- ---- what the words ask for
-asked_from : (words : List (List ℕ)) (cs : List PlainCommand) → words_spell.commands words ≡ Some cs → (b : Bool) → words_spell.is_first (codes "demo") words ≡ b → asked words ≡ Some (if b then db_cleanup ∷ [] else cs)
+asked_from : (words : List (List ℕ)) (cs : List PlainCommand) → words_spell.commands words ≡ Some cs → (b : Bool) → words_spell.is_first (codes "demo") words ≡ b → asked words ≡ Some (if b then of_other db_cleanup ∷ [] else cs)
 asked_from words cs found b is =
-    ap (option_map (λ commands. if words_spell.is_first (codes "demo") words then db_cleanup ∷ [] else commands)) found ∙ ap (λ (x : Bool). Some (if x then db_cleanup ∷ [] else cs)) is
+    ap (option_map (λ commands. if words_spell.is_first (codes "demo") words then of_other db_cleanup ∷ [] else commands)) found ∙ ap (λ (x : Bool). Some (if x then of_other db_cleanup ∷ [] else cs)) is
 
 pub asked_all : (words : List (List ℕ)) (cs : List PlainCommand) → words_spell.commands words ≡ Some cs → words_spell.is_first (codes "demo") words ≡ false → asked words ≡ Some cs
 asked_all words cs found is = asked_from words cs found false is
 
-pub asked_one : (words : List (List ℕ)) (cs : List PlainCommand) → words_spell.commands words ≡ Some cs → words_spell.is_first (codes "demo") words ≡ true → asked words ≡ Some (db_cleanup ∷ [])
+pub asked_one : (words : List (List ℕ)) (cs : List PlainCommand) → words_spell.commands words ≡ Some cs → words_spell.is_first (codes "demo") words ≡ true → asked words ≡ Some (of_other db_cleanup ∷ [])
 asked_one words cs found is = asked_from words cs found true is

@@ -27,9 +27,9 @@ use Rattle.machine_state.specs.declared.refusal.Refusal.{Refusal}
 use Rattle.machine_state.specs.State.{Valid}
 use Rattle.machine_state.specs.Values.{StateView}
 use Rattle.machine_step.specs.declared.outcome.Outcome.{Outcome as Made}
-use Rattle.machine_step.specs.Early.{folder_read}
-use Rattle.machine_step.specs.Step.{Given}
-use Rattle.machine_step.specs.Answers.{IsNew}
+use Rattle.machine_step.specs.Step.{Given, read_for}
+use Rattle.step_model.specs.declared.reading.Reading.TheVariants as readings
+use Rattle.step_model.specs.Answers.{IsNew}
 use Rattle.hash_pool.specs.Bodies.{HasBody, IsMet}
 use Rattle.aptly_core.specs.declared.fault.RunFault.{RunFault}
 use Rattle.aptly_core.specs.Arrives.{Decides}
@@ -176,7 +176,7 @@ pub taken_work : (l k : Log) (p a : List Op) → PoolGrows l p → EachOp (IsCom
 taken_work l k p a grows only = EachOp-append IsWork p a (taking_work l p grows.kinds) (committing_work k a only)
 
 -- a command broke off before its outcome
-pub broke_taking : (given : Given) (l : Log) (s : StateView) (c : PlainCommand) (p : List Op) → PoolGrows l p → (folder_read s c ≡ None → p ≡ []) → AtRest store s l → Ran (machine given) None l s (c ∷ []) None p
+pub broke_taking : (given : Given) (l : Log) (s : StateView) (c : PlainCommand) (p : List Op) → PoolGrows l p → (read_for given.now s c ≡ readings.Nothing → p ≡ []) → AtRest store s l → Ran (machine given) None l s (c ∷ []) None p
 broke_taking given l s c p grows nothing rest = ran_begun (machine given) (lawful given) None l s c p (grown_to s l p grows rest s) (record {
   work = taking_work l p grows.kinds;
   once = grows.once;
@@ -188,12 +188,12 @@ broke_taking given l s c p grows nothing rest = ran_begun (machine given) (lawfu
 })
 
 module _ (given : Given) (k : Option (List ℕ)) (l : Log) (s : StateView) (c : PlainCommand) (o : Outcome StateView Refusal) (step : Steps given k s c o) (new : Option StateView) (is : o.state ≡ unwrap_or new s) (kept : IsSome o.refusal → new ≡ None) (fresh : IsNew s new)
-    {T : Type 0} (p : List Op) (taken : PoolGrows l p) (nothing : folder_read s c ≡ None → p ≡ []) (before now : StageState) (r : Result T HostErr) (a : List Op) (saves : Saves s new before now r (extended p l) a) where
+    {T : Type 0} (p : List Op) (taken : PoolGrows l p) (nothing : read_for given.now s c ≡ readings.Nothing → p ≡ []) (before now : StageState) (r : Result T HostErr) (a : List Op) (saves : Saves s new before now r (extended p l) a) where
   only : EachOp (IsCommitting (extended p l)) a
   only = saving_commits new (extended p l) a saves.only
 
   -- without a word more, or with some
-  moves : (b : List Op) → SaysAtMost o.reply b → Moves l s c (Some o) ((p ++ a) ++ b)
+  moves : (b : List Op) → SaysAtMost o.reply b → Moves given l s c (Some o) ((p ++ a) ++ b)
   moves b most =
       let words = most_words o.reply b most in
       let own : targets (a ++ b) ≡ targets a = targets-append a b ∙ ap (λ (x : List Path). targets a ++ x) (words_target b words) ∙ append-nil (targets a) in
@@ -219,7 +219,7 @@ module _ (given : Given) (k : Option (List ℕ)) (l : Log) (s : StateView) (c : 
 
   module _ (grows : Grows store s o.state l (p ++ a)) where
     pub quietly : Ran (machine given) k l s (c ∷ []) None (p ++ a)
-    quietly = ran_quiet (machine given) (lawful given) k l s c o step (p ++ a) grows (subst (Moves l s c (Some o)) (append-nil (p ++ a)) (moves [] (inl refl)))
+    quietly = ran_quiet (machine given) (lawful given) k l s c o step (p ++ a) grows (subst (Moves given l s c (Some o)) (append-nil (p ++ a)) (moves [] (inl refl)))
 
     none_said : (b : List Op) → b ≡ [] → Ran (machine given) k l s (c ∷ []) None ((p ++ a) ++ b)
     none_said b none = subst (λ (x : List Op). Ran (machine given) k l s (c ∷ []) None x) (sym (append-nil (p ++ a)) ∙ ap (λ (x : List Op). (p ++ a) ++ x) (sym none)) quietly
@@ -241,7 +241,7 @@ abbrev pub made : StateView → Made → Outcome StateView Refusal
 made s out = record { reply = out.reply; refusal = out.refusal; state = unwrap_or out.state s }
 
 -- where the new state may be committed
-module _ (given : Given) (l : Log) (s : StateView) (c : PlainCommand) (before mid : StageState) (out : Made) (p : List Op) (decides : Decides (Valid s) given.inbox s c before mid (Ok out) l p) (may : MayRun given s before l) (next : Valid (unwrap_or out.state s)) where
+module _ (given : Given) (l : Log) (s : StateView) (c : PlainCommand) (before mid : StageState) (out : Made) (p : List Op) (decides : Decides (Valid s) given s c before mid (Ok out) l p) (may : MayRun given s before l) (next : Valid (unwrap_or out.state s)) where
   pub ready : MayCommit s (unwrap_or out.state s) mid (extended p l)
   ready = record {
     rest = grown_rest s l p decides.grows may.rest;
@@ -289,10 +289,10 @@ pub record Decided {T : Type 0} (given : Given) (s : StateView) (c : PlainComman
   pub taken : List Op
   pub saved : List Op
   pub cut : taken ++ saved ≡ ops
-  pub decides : Decides (Valid s) given.inbox s c before mid (Ok out) l taken
+  pub decides : Decides (Valid s) given s c before mid (Ok out) l taken
   pub saves : Saves s out.state mid now r (extended taken l) saved
 
-pub decided_then_saved : {T : Type 0} (given : Given) (s : StateView) (c : PlainCommand) (before mid now : StageState) (out : Made) (r : Result T HostErr) (l : Log) (p a : List Op) → Decides (Valid s) given.inbox s c before mid (Ok out) l p → Saves s out.state mid now r (extended p l) a → Decided given s c before mid now out r l (p ++ a)
+pub decided_then_saved : {T : Type 0} (given : Given) (s : StateView) (c : PlainCommand) (before mid now : StageState) (out : Made) (r : Result T HostErr) (l : Log) (p a : List Op) → Decides (Valid s) given s c before mid (Ok out) l p → Saves s out.state mid now r (extended p l) a → Decided given s c before mid now out r l (p ++ a)
 decided_then_saved given s c before mid now out r l p a d w = record { taken = p; saved = a; cut = refl; decides = d; saves = w }
 
 -- the command that ended
@@ -313,7 +313,7 @@ runs_ok given Told s c before mid now out v r ok comes kept fresh l ops b x told
     a : List Op
     a = x.saved
 
-    d : Decides (Valid s) given.inbox s c before mid (Ok out) l p
+    d : Decides (Valid s) given s c before mid (Ok out) l p
     d = x.decides
 
     w : Saves s out.state mid now r (extended p l) a

@@ -1,9 +1,8 @@
 -- What the deciding of a command adds to the log: the files that it takes in.
-use Rattle.std.specs.Prelude.{◌≡◌, List, [], All, Option, None, Result, Ok, Err, IfOk, IfSome, length, ◌≤◌}
+use Rattle.std.specs.Prelude.{◌≡◌, List, [], All, Option, Result, Ok, Err, IfOk, IfSome}
 use Rattle.ap_host.specs.declared.host.Op.{Op}
 use Rattle.ap_host.specs.Disk.{Files, Log, extended, live_of}
 use Rattle.stage_file.specs.Stage.{StageState, IsInStep}
-use Rattle.package_core.specs.Card.{Card}
 use Rattle.hash_pool.specs.Growth.{PoolGrows}
 use Rattle.machine_state.specs.declared.arrived.Arrived.{Arrived}
 use Rattle.machine_state.specs.declared.arrived.Arrived.TheVariants as arrivals
@@ -11,11 +10,11 @@ use Rattle.machine_state.specs.declared.arrived.UpdateFault.{UpdateFault}
 use Rattle.machine_state.specs.declared.arrived.UpdateFault.TheVariants as updates
 use Rattle.machine_state.specs.Values.{StateView}
 use Rattle.command_words.specs.Plain.{PlainCommand}
-use Rattle.machine_step.specs.Early.{folder_read}
 use Rattle.machine_step.specs.declared.outcome.Outcome.{Outcome}
-use Rattle.machine_step.specs.declared.outcome.Reading.{Reading}
-use Rattle.machine_step.specs.declared.outcome.Reading.TheVariants as readings
-use Rattle.local_repo.specs.Answers.{IsArrival}
+use Rattle.machine_step.specs.Step.{Given, read_for}
+use Rattle.step_model.specs.declared.reading.Reading.{Reading}
+use Rattle.step_model.specs.declared.reading.Reading.TheVariants as readings
+use Rattle.step_model.specs.Lawful.{list_in}
 use Rattle.hash_pool.specs.Bodies.{HasBody}
 use Rattle.aptly_core.specs.declared.fault.RunFault.{RunFault}
 use Rattle.aptly_core.specs.declared.fault.RunFault.TheVariants.{HostFault, InboxFault, OutOfMemory}
@@ -30,18 +29,6 @@ arrived_of (Err updates.HostFault) = Err HostFault
 arrived_of (Err updates.InboxFault) = Err InboxFault
 arrived_of (Err updates.OutOfMemory) = Err OutOfMemory
 
--- the packages that arrived
-abbrev pub list_in : Arrived → List Card
-list_in (arrivals.List list date) = list
-list_in arrivals.Nothing = []
-list_in (arrivals.Refused refusal) = []
-
--- what may arrive where this is to be read
-abbrev pub ArrivesFor : Option Files → StateView → Reading → Arrived → Type 0
-ArrivesFor input state readings.Nothing arrived = arrived ≡ arrivals.Nothing
-ArrivesFor input state (readings.Mirror name) arrived = arrived ≡ arrivals.Nothing
-ArrivesFor input state (readings.Folder name folder) arrived = length folder ≤ 200 → IsArrival input state name folder arrived
-
 -- Files were taken into the pool, all that arrived among them. Where nothing is to be read, nothing was done.
 pub record Arrives (input : Option Files) (state : StateView) (reading : Reading) (before now : StageState) (result : Result Arrived RunFault) (l : Log) (ops : List Op) : Type 0 where
   pub grows : PoolGrows l ops
@@ -52,9 +39,9 @@ pub record Arrives (input : Option Files) (state : StateView) (reading : Reading
 
 -- Files were taken into the pool, all that the new state knows among them; none where the command reads nothing. This is for a
 -- command of which Fits holds.
-pub record Decides (Fits : Type 0) (input : Option Files) (state : StateView) (command : PlainCommand) (before now : StageState) (result : Result Outcome RunFault) (l : Log) (ops : List Op) : Type 0 where
+pub record Decides (Fits : Type 0) (given : Given) (state : StateView) (command : PlainCommand) (before now : StageState) (result : Result Outcome RunFault) (l : Log) (ops : List Op) : Type 0 where
   pub grows : PoolGrows l ops
-  pub nothing : Fits → folder_read state command ≡ None → ops ≡ []
+  pub nothing : Fits → read_for given.now state command ≡ readings.Nothing → ops ≡ []
   pub step : IsInStep before l → IsInStep now (extended ops l)
-  pub apart : BodiesApart input (live_of l) → BodiesApart input (live_of (extended ops l))
-  pub bodies : IfOk result (λ outcome. Fits → Stored (live_of l) state → BodiesApart input (live_of l) → IfSome outcome.state (λ next. All (HasBody (live_of (extended ops l))) next.known))
+  pub apart : BodiesApart given.inbox (live_of l) → BodiesApart given.inbox (live_of (extended ops l))
+  pub bodies : IfOk result (λ outcome. Fits → Stored (live_of l) state → BodiesApart given.inbox (live_of l) → IfSome outcome.state (λ next. All (HasBody (live_of (extended ops l))) next.known))

@@ -6,7 +6,7 @@ use Rattle.ap_host.specs.Disk.{Files, Log, extended, live_of, said, Images}
 use Rattle.ap_host.specs.Changes.{EachOp}
 use Rattle.run_model.specs.Run.{IsFront}
 use Rattle.run_model.specs.Call.{Entry, RanAll, HandOverLaw, fresh}
-use Rattle.command_words.specs.Plain.{PlainCommand, db_cleanup}
+use Rattle.command_words.specs.Plain.{PlainCommand, of_other, db_cleanup}
 use Rattle.command_words.specs.Commands as words_spell
 use Rattle.command_words.specs.Commands.{IsUsagePlace}
 use Rattle.machine_state.specs.declared.refusal.Refusal.{Refusal}
@@ -40,7 +40,7 @@ IsSaid _ = ⊥
 -- What the words ask for: the commands that they spell. As long as its archive isn't made, `demo` is one command that isn't
 -- built: the last of those that it stands for.
 abbrev pub asked : List (List ℕ) → Option (List PlainCommand)
-asked words = option_map (λ commands. if words_spell.is_first (codes "demo") words then db_cleanup ∷ [] else commands) (words_spell.commands words)
+asked words = option_map (λ commands. if words_spell.is_first (codes "demo") words then of_other db_cleanup ∷ [] else commands) (words_spell.commands words)
 
 -- what a whole call that ends with this status did, from an entry for s
 abbrev pub CallTo : Given → Option (List ℕ) → Log → Place → Place → List PlainCommand → Status → List Op → Type 0

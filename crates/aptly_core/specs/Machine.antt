@@ -13,8 +13,9 @@ use Rattle.hash_pool.specs.Growth.{targets, IsOnce}
 use Rattle.machine_state.specs.declared.refusal.Refusal.{Refusal}
 use Rattle.machine_state.specs.State.{Valid}
 use Rattle.machine_state.specs.Values.{StateView}
-use Rattle.machine_step.specs.Early.{folder_read, is_to_remove}
-use Rattle.machine_step.specs.Step.{Given, Step, Came}
+use Rattle.step_model.specs.declared.reading.Reading.TheVariants as readings
+use Rattle.machine_step.specs.Removal.{is_to_remove}
+use Rattle.machine_step.specs.Step.{Given, Step, read_for}
 use Rattle.catalogue_root.specs.Commits.{IsTarget, Sets}
 use Rattle.catalogue_root.specs.Store.{store}
 
@@ -22,12 +23,9 @@ use Rattle.catalogue_root.specs.Store.{store}
 abbrev pub Place : Type 0
 Place = StateView
 
--- what a command comes to, as an outcome of a run
-abbrev pub came : Outcome Place Refusal → Came
-came o = record { reply = o.reply; refusal = o.refusal; state = o.state }
-
+-- in a call that is given this, the command, in this state, may come to this
 abbrev pub Steps : Given → Option (List ℕ) → Place → PlainCommand → Outcome Place Refusal → Type 0
-Steps given large state command o = Step given large state command (came o)
+Steps given = Step given
 
 abbrev pub is_below_one : Path → Bool
 is_below_one path = is_below (codes "db") path || is_pooled path || is_below (codes "public") path
@@ -72,7 +70,7 @@ AreTargets l [] = Unit {0}
 AreTargets l (p ∷ ps) = (IsTarget l p ⊎ (IsTrue (is_pooled p) × (live_of l p ≡ None))) × AreTargets l ps
 
 -- what the operations of one command keep to, from the log at its start on
-pub record Moves (l : Log) (state : Place) (command : PlainCommand) (outcome : Option (Outcome Place Refusal)) (ops : List Op) : Type 0 where
+pub record Moves (given : Given) (l : Log) (state : Place) (command : PlainCommand) (outcome : Option (Outcome Place Refusal)) (ops : List Op) : Type 0 where
   pub work : EachOp IsWork ops
   pub once : IsOnce (targets ops)
   pub targets : AreTargets l (targets ops)
@@ -80,7 +78,7 @@ pub record Moves (l : Log) (state : Place) (command : PlainCommand) (outcome : O
   -- what leaves the state as it was sets no root
   pub unchanged : IfSome outcome (λ o. o.state ≡ state → EachOp (λ op. ¬ Sets op) ops)
   -- a command that reads nothing and leaves the state as it was says its reply, and does nothing else
-  pub quiet : folder_read state command ≡ None → MatchOption outcome (ops ≡ []) (λ o. o.state ≡ state → SaysAtMost o.reply ops)
+  pub quiet : read_for given.now state command ≡ readings.Nothing → MatchOption outcome (ops ≡ []) (λ o. o.state ≡ state → SaysAtMost o.reply ops)
   -- only a command that is to remove files removes any
   pub removes : is_to_remove command ≡ false → EachOp (λ op. ¬ IsRemoval op) ops
 
@@ -91,4 +89,4 @@ pub record Opening (l : Log) (state : Place) (ops : List Op) : Type 0 where
 
 -- the machine of a call that is given this
 abbrev pub machine : Given → Machine (Option (List ℕ)) Place PlainCommand Refusal
-machine given = record { Valid = Valid; Step = Steps given; store = store; Sets = Sets; Moves = Moves; Opening = Opening }
+machine given = record { Valid = Valid; Step = Steps given; store = store; Sets = Sets; Moves = Moves given; Opening = Opening }

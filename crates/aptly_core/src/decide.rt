@@ -1,14 +1,14 @@
 //! What a command comes to: what it needs is read, and its step is made.
-ghost use Rattle.std.specs.Prelude.{◌≡◌, ◌≤◌, None, IfOk, IsSome};
+ghost use Rattle.std.specs.Prelude.{◌≡◌, ◌≤◌, ℕ, ℤ, List, None, Option, IfOk, IsSome};
 ghost use Rattle.ap_host.specs.Calls.{CauseOf};
 ghost use Rattle.ap_host.specs.Changes.{GoesOn};
 ghost use Rattle.command_words.specs.Plain.{plain};
 ghost use Rattle.machine_state.specs.State.{Valid};
-ghost use Rattle.machine_step.specs.Answers.{IsNew, Told, reading_for, seen};
-ghost use Rattle.machine_step.specs.Early.{folder_read};
-ghost use Rattle.machine_step.specs.Step.{Step, giving};
+ghost use Rattle.step_model.specs.Answers.{IsNew, Told};
+ghost use Rattle.machine_step.specs.Answers.{seen};
+ghost use Rattle.machine_step.specs.Step.{IsReadable, MayArrive, Step, giving, read_for};
 ghost use Rattle.aptly_core.specs.declared.fault.RunFault.TheVariants.{HostFault, InboxFault};
-ghost use Rattle.aptly_core.specs.Arrives.{Arrives, ArrivesFor, Decides, arrived_of};
+ghost use Rattle.aptly_core.specs.Arrives.{Arrives, Decides, arrived_of};
 
 use crate::fault::RunFault;
 use ap_host::{Host, Inbox};
@@ -33,7 +33,7 @@ fn arrived_of(given: Result<Arrived, UpdateFault>) -> Result<Arrived, RunFault>
     }
 }
 
-/// Reads what a command needs.
+/// Reads what a command needs. Nothing is read of a mirror yet, so no command asks for one.
 fn arrive<H: Host, I: Inbox>(
     alloc: Global,
     host: &mut H,
@@ -42,7 +42,7 @@ fn arrive<H: Host, I: Inbox>(
     state: &State,
     reading: Reading,
 ) -> Result<Arrived, RunFault>
-    ensures arrived { Valid state.now → IfOk result (ArrivesFor (I.map inbox.old) state.now reading) }
+    ensures arrived { (now : ℤ) (large : Option (List ℕ)) → Valid state.now → IsReadable reading → IfOk result (MayArrive (giving (I.map inbox.old) now) large state.now reading) }
     ensures log { GoesOn (H.log host.old) (H.log host.new) (Arrives (I.map inbox.old) state.now reading stage.old stage.new result) }
     ensures map { I.map inbox.new ≡ I.map inbox.old }
     ensures host_cause { CauseOf HostFault (H.faults host.old) (H.faults host.new) result }
@@ -70,11 +70,11 @@ fn decide_with<H: Host, I: Inbox, M: Patterns>(
     patterns: &mut M,
     reading: Reading,
 ) -> Result<Outcome, RunFault>
-    ensures comes { Valid state.now → reading ≡ reading_for (folder_read state.now (plain command.now)) → IfOk result (λ outcome. Told (M.refusals patterns.old) (M.refusals patterns.new) (M.refused patterns.new) (λ large. Step (giving (I.map inbox.old) now.now) large state.now (plain command.now) (seen state.now outcome))) }
-    ensures changed { Valid state.now → reading ≡ reading_for (folder_read state.now (plain command.now)) → IfOk result (λ outcome. IsNew state.now outcome.state) }
+    ensures comes { Valid state.now → reading ≡ read_for now.now state.now (plain command.now) → IfOk result (λ outcome. Told (M.refusals patterns.old) (M.refusals patterns.new) (M.refused patterns.new) (λ large. Step (giving (I.map inbox.old) now.now) large state.now (plain command.now) (seen state.now outcome))) }
+    ensures changed { Valid state.now → reading ≡ read_for now.now state.now (plain command.now) → IfOk result (λ outcome. IsNew state.now outcome.state) }
     ensures kept { IfOk result (λ outcome. IsSome outcome.refusal → outcome.state ≡ None) }
     ensures later { M.refusals patterns.old ≤ M.refusals patterns.new }
-    ensures log { GoesOn (H.log host.old) (H.log host.new) (Decides (reading ≡ reading_for (folder_read state.now (plain command.now))) (I.map inbox.old) state.now (plain command.now) stage.old stage.new result) }
+    ensures log { GoesOn (H.log host.old) (H.log host.new) (Decides (reading ≡ read_for now.now state.now (plain command.now)) (giving (I.map inbox.old) now.now) state.now (plain command.now) stage.old stage.new result) }
     ensures map { I.map inbox.new ≡ I.map inbox.old }
     ensures host_cause { CauseOf HostFault (H.faults host.old) (H.faults host.new) result }
     ensures inbox_cause { CauseOf InboxFault (I.faults inbox.old) (I.faults inbox.new) result }
@@ -99,7 +99,7 @@ pub fn decide<H: Host, I: Inbox, M: Patterns>(
     ensures changed { Valid state.now → IfOk result (λ outcome. IsNew state.now outcome.state) }
     ensures kept { IfOk result (λ outcome. IsSome outcome.refusal → outcome.state ≡ None) }
     ensures later { M.refusals patterns.old ≤ M.refusals patterns.new }
-    ensures log { GoesOn (H.log host.old) (H.log host.new) (Decides (Valid state.now) (I.map inbox.old) state.now (plain command.now) stage.old stage.new result) }
+    ensures log { GoesOn (H.log host.old) (H.log host.new) (Decides (Valid state.now) (giving (I.map inbox.old) now.now) state.now (plain command.now) stage.old stage.new result) }
     ensures map { I.map inbox.new ≡ I.map inbox.old }
     ensures host_cause { CauseOf HostFault (H.faults host.old) (H.faults host.new) result }
     ensures inbox_cause { CauseOf InboxFault (I.faults inbox.old) (I.faults inbox.new) result }

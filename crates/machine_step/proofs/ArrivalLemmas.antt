@@ -21,8 +21,13 @@ use Rattle.machine_state.specs.declared.refusal.Refusal.TheVariants.{Limit}
 use Rattle.machine_state.specs.Limits.{limit_number}
 use Rattle.machine_state.specs.State.{text_length}
 use Rattle.machine_state.specs.Values.{StateView}
-use Rattle.local_repo.specs.Arrival.{Entry, cards_of, path_of, list_of, facts_of, and_then, index_bytes, index_path, or_malformed, or_refused, agreed, of_known_or_file, taken as taken_file, each_taken, within_catalogue, check_answer, fitting, entries_arrive, BytesArrive, Arrives}
-use Rattle.local_repo.specs.Answers.{IsArrival, IsInputLimit, IsInputRefusal}
+use Rattle.package_intake.specs.Index.{IndexEntry, cards_of, path_of, index_bytes, or_malformed}
+use Rattle.package_intake.specs.Taking.{facts_of, agreed, of_known_or_file, taken_file, each_taken}
+use Rattle.package_intake.specs.Steps.{and_then, or_refused}
+use Rattle.package_intake.specs.Catalogue.{within_catalogue}
+use Rattle.package_intake.specs.Faults.{IsInputLimit, IsInputRefusal}
+use Rattle.local_repo.specs.Arrival.{list_of, index_path, check_answer, fitting, entries_arrive, BytesArrive, Arrives}
+use Rattle.local_repo.specs.Answers.{IsArrival}
 
 -- ---- what is refused of an arrival is of its steps
 abbrev Fine : {X : Type 0} → Result X Refusal → Type 0
@@ -79,7 +84,7 @@ check_fine known own list = then_fine {X = Unit {0}} {Y = Unit {0}} (or_refused 
 fitting_fine : (known own list : List Card) → Fine (fitting known own list)
 fitting_fine known own list = then_fine {X = Unit {0}} {Y = List Card} (check_answer known own list) (λ x. Ok list) (check_fine known own list) (λ x. tt)
 
-arrive_fine : (files : Files) (known own : List Card) (folder : Path) (entries : List Entry) → Fine (entries_arrive files known own folder entries)
+arrive_fine : (files : Files) (known own : List Card) (folder : Path) (entries : List IndexEntry) → Fine (entries_arrive files known own folder entries)
 unfolding entries_arrive
 arrive_fine files known own folder entries =
     let take = λ (p : Card). taken_file files known (below_folder folder (path_of entries p)) p in
@@ -91,7 +96,7 @@ unfolding Arrives
 arrives_refused files s name folder r arrives = go (index_bytes (index_path folder) (files (index_path folder))) (bytes_fine (index_path folder) (files (index_path folder))) arrives
   where
     go : (b : Result (List ℕ) Refusal) → Fine b → BytesArrive files s name folder b (Err r) → IsInputRefusal r
-    go (Ok bytes) fine w = subst (Fine {X = List Card}) (sym w.2) (then_fine {X = List Entry} {Y = List Card} (or_malformed (index_path folder) w.0) (λ entries. entries_arrive files s.known (list_of s name) folder entries) (malformed_fine {X = List Entry} (index_path folder) w.0) (λ entries. arrive_fine files s.known (list_of s name) folder entries))
+    go (Ok bytes) fine w = subst (Fine {X = List Card}) (sym w.2) (then_fine {X = List IndexEntry} {Y = List Card} (or_malformed (index_path folder) w.0) (λ entries. entries_arrive files s.known (list_of s name) folder entries) (malformed_fine {X = List IndexEntry} (index_path folder) w.0) (λ entries. arrive_fine files s.known (list_of s name) folder entries))
     go (Err e) fine w = subst (Fine {X = List Card}) (sym w) fine
 
 pub arrival_refused : (input : Option Files) (s : StateView) (name : List ℕ) (folder : Path) (r : Refusal) → IsArrival input s name folder (arrivals.Refused r) → IsInputRefusal r

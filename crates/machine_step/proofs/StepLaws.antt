@@ -10,7 +10,7 @@ use Rattle.machine_state.specs.Values.{StateView}
 use Rattle.reply_text.specs.Refusals.{refusal_line}
 use Rattle.step_model.specs.Lawful.{IsFrom}
 use Rattle.step_model.specs.Refuses.{Refuses}
-use Rattle.local_repo.proofs.EntryLemmas.{listed_packages}
+use Rattle.package_intake.proofs.EntryLemmas.{listed_packages}
 use Rattle.local_repo.proofs.LawLemmas.{arrives_fit}
 use Rattle.local_repo.proofs.LawfulLemmas.{lawful}
 use Rattle.local_repo.proofs.TotalLemmas.{some_arrives}

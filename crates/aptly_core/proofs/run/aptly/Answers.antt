@@ -4,7 +4,7 @@ use Rattle.ap_host.proofs.ChangeLemmas.{GoesOn-map, GoesOn-none}
 use Rattle.command_words.specs.Plain.{plain}
 use Rattle.command_words.specs.Fault.{IsAt}
 use Rattle.command_words.specs.Commands.{IsUsagePlace}
-use Rattle.machine_step.specs.Answers.{IsTold}
+use Rattle.step_model.specs.Answers.{IsTold}
 use Rattle.machine_step.specs.Step.{giving}
 use Rattle.aptly_core.specs.Calls.{Called}
 use Rattle.aptly_core.specs.Runs.{EndsFrom, IsEnd}

@@ -9,7 +9,7 @@ use Rattle.ap_host.proofs.ChangeLemmas.{does, GoesOn-map, GoesOn-then}
 use Rattle.command_words.specs.Plain.{plain}
 use Rattle.machine_state.specs.State.{Valid}
 use Rattle.machine_state.specs.Values.{StateView}
-use Rattle.machine_step.specs.Answers.{IsTold}
+use Rattle.step_model.specs.Answers.{IsTold}
 use Rattle.machine_step.specs.Step.{giving}
 use Rattle.aptly_core.specs.Machine.{Steps}
 use Rattle.aptly_core.specs.Runs.{RunsOne}

@@ -3,7 +3,7 @@ use Rattle.ap_host.specs.Disk.{Files}
 use Rattle.ap_host.specs.Changes.{GoesOn}
 use Rattle.ap_host.proofs.ChangeLemmas.{GoesOn-map, GoesOn-then, GoesOn-none}
 use Rattle.command_words.specs.Plain.{plain}
-use Rattle.machine_step.specs.Answers.{IsTold}
+use Rattle.step_model.specs.Answers.{IsTold}
 use Rattle.machine_step.specs.Step.{giving}
 use Rattle.aptly_core.specs.Runs.{Turns, TurnComes}
 use Rattle.aptly_core.proofs.DecideLemmas.{told_wider}

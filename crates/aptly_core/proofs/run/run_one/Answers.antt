@@ -1,7 +1,7 @@
 use Rattle.std.proofs.Common.{ℤ, to_z-of_z, subst}
 use Rattle.ap_host.specs.Changes.{GoesOn}
 use Rattle.command_words.specs.Plain.{plain}
-use Rattle.machine_step.specs.Answers.{IsTold}
+use Rattle.step_model.specs.Answers.{IsTold}
 use Rattle.machine_step.specs.Step.{giving}
 use Rattle.aptly_core.specs.Runs.{RunsOne}
 use Rattle.aptly_core.proofs.run.run_one.Goals as goal

@@ -2,7 +2,7 @@ use Rattle.std.proofs.Common.{Option, List, ℕ, Result, Err, sym, subst}
 use Rattle.ap_host.proofs.ChangeLemmas.{GoesOn-map}
 use Rattle.command_words.specs.Plain.{plain}
 use Rattle.machine_state.specs.Values.{StateView}
-use Rattle.machine_step.specs.Answers.{IsTold}
+use Rattle.step_model.specs.Answers.{IsTold}
 use Rattle.machine_step.specs.Step.{giving}
 use Rattle.aptly_core.specs.Runs.{Turns, TurnComes}
 use Rattle.aptly_core.specs.declared.status.Status.{Status}
