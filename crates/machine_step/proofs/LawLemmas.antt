@@ -26,7 +26,8 @@ use Rattle.step_model.specs.Steps as steps
 use Rattle.step_model.proofs.RefusalLemmas.{Cause, none_some, passed, reads_on}
 use Rattle.step_model.proofs.StepLemmas.{is_built, refused_kept, refused_says, step_cause, step_knows, step_plain, step_says, step_some, step_valid}
 use Rattle.local_repo.specs.Arrival.{Arrives}
-use Rattle.local_repo.specs.Answers.{IsArrival, IsInputRefusal}
+use Rattle.package_intake.specs.Faults.{IsInputRefusal}
+use Rattle.local_repo.specs.Answers.{IsArrival}
 use Rattle.machine_step.specs.Causes.{IsCause, IsUnbuilt}
 use Rattle.machine_step.specs.Step.{Given, IsReadable, MayArrive, Step, StepWith, case_of, read_for, refused}
 use Rattle.machine_step.proofs.ArrivalLemmas.{arrival_refused}
