@@ -19,9 +19,12 @@ use Rattle.aptly_core.specs.Runs.{EndsWith, EndsFrom, IsEnd}
 
 -- the condition that is told is one of the command
 has_condition : (now : ℤ) (s : StateView) (c : PlainCommand) (query test : ℕ) (condition : Condition) → Contains (case_of now s c).conditions condition → query ≡ condition.query → test ≡ condition.test → HasCondition query test condition.text c
-has_condition now s c query test condition has q t =
-    (now, s, subst (λ (n : ℕ). Contains (case_of now s c).conditions (record { query = n; test = test; text = condition.text })) (sym q)
-    (subst (λ (n : ℕ). Contains (case_of now s c).conditions (record { query = condition.query; test = n; text = condition.text })) (sym t) has))
+has_condition now s c query test condition has q t = (
+  now,
+  s,
+  subst (λ (n : ℕ). Contains (case_of now s c).conditions (record { query = n; test = test; text = condition.text })) (sym q)
+      (subst (λ (n : ℕ). Contains (case_of now s c).conditions (record { query = condition.query; test = n; text = condition.text })) (sym t) has),
+)
 
 -- ---- lists of commands
 abbrev Found : Given → Option (List ℕ) → List PlainCommand → Refusal → Type 0
