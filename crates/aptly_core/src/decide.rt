@@ -66,21 +66,21 @@ fn decide_with<H: Host, I: Inbox, M: Patterns>(
     stage: &mut Stage,
     state: &State,
     command: &Command,
-    now: i64,
+    now: &i64,
     patterns: &mut M,
     reading: Reading,
 ) -> Result<Outcome, RunFault>
-    ensures comes { Valid state.now → reading ≡ read_for now state.now (plain command.now) → IfOk result (λ outcome. Told (M.refusals patterns.old) (M.refusals patterns.new) (M.refused patterns.new) (λ large. Step (giving (I.map inbox.old) now) large state.now (plain command.now) (seen state.now outcome))) }
-    ensures changed { Valid state.now → reading ≡ read_for now state.now (plain command.now) → IfOk result (λ outcome. IsNew state.now outcome.state) }
+    ensures comes { Valid state.now → reading ≡ read_for now.now state.now (plain command.now) → IfOk result (λ outcome. Told (M.refusals patterns.old) (M.refusals patterns.new) (M.refused patterns.new) (λ large. Step (giving (I.map inbox.old) now.now) large state.now (plain command.now) (seen state.now outcome))) }
+    ensures changed { Valid state.now → reading ≡ read_for now.now state.now (plain command.now) → IfOk result (λ outcome. IsNew state.now outcome.state) }
     ensures kept { IfOk result (λ outcome. IsSome outcome.refusal → outcome.state ≡ None) }
     ensures later { M.refusals patterns.old ≤ M.refusals patterns.new }
-    ensures log { GoesOn (H.log host.old) (H.log host.new) (Decides (reading ≡ read_for now state.now (plain command.now)) (giving (I.map inbox.old) now) state.now (plain command.now) stage.old stage.new result) }
+    ensures log { GoesOn (H.log host.old) (H.log host.new) (Decides (reading ≡ read_for now.now state.now (plain command.now)) (giving (I.map inbox.old) now.now) state.now (plain command.now) stage.old stage.new result) }
     ensures map { I.map inbox.new ≡ I.map inbox.old }
     ensures host_cause { CauseOf HostFault (H.faults host.old) (H.faults host.new) result }
     ensures inbox_cause { CauseOf InboxFault (I.faults inbox.old) (I.faults inbox.new) result }
 {
     let arrived = arrive(alloc, host, inbox, stage, state, reading)?;
-    Ok(step(alloc, state, command, arrived, now, patterns)?)
+    Ok(step(alloc, state, command, arrived, *now, patterns)?)
 }
 
 /// What a command comes to in a valid state. Files that it takes in are in the pool then, and durable only after the next
@@ -92,14 +92,14 @@ pub fn decide<H: Host, I: Inbox, M: Patterns>(
     stage: &mut Stage,
     state: &State,
     command: &Command,
-    now: i64,
+    now: &i64,
     patterns: &mut M,
 ) -> Result<Outcome, RunFault>
-    ensures comes { Valid state.now → IfOk result (λ outcome. Told (M.refusals patterns.old) (M.refusals patterns.new) (M.refused patterns.new) (λ large. Step (giving (I.map inbox.old) now) large state.now (plain command.now) (seen state.now outcome))) }
+    ensures comes { Valid state.now → IfOk result (λ outcome. Told (M.refusals patterns.old) (M.refusals patterns.new) (M.refused patterns.new) (λ large. Step (giving (I.map inbox.old) now.now) large state.now (plain command.now) (seen state.now outcome))) }
     ensures changed { Valid state.now → IfOk result (λ outcome. IsNew state.now outcome.state) }
     ensures kept { IfOk result (λ outcome. IsSome outcome.refusal → outcome.state ≡ None) }
     ensures later { M.refusals patterns.old ≤ M.refusals patterns.new }
-    ensures log { GoesOn (H.log host.old) (H.log host.new) (Decides (Valid state.now) (giving (I.map inbox.old) now) state.now (plain command.now) stage.old stage.new result) }
+    ensures log { GoesOn (H.log host.old) (H.log host.new) (Decides (Valid state.now) (giving (I.map inbox.old) now.now) state.now (plain command.now) stage.old stage.new result) }
     ensures map { I.map inbox.new ≡ I.map inbox.old }
     ensures host_cause { CauseOf HostFault (H.faults host.old) (H.faults host.new) result }
     ensures inbox_cause { CauseOf InboxFault (I.faults inbox.old) (I.faults inbox.new) result }

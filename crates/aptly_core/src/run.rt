@@ -44,11 +44,11 @@ fn run_in<H: Host, I: Inbox, M: Patterns>(
     stage: &mut Stage,
     state: State,
     command: &Command,
-    now: i64,
+    now: &i64,
     patterns: &mut M,
 ) -> Result<(State, Option<Refusal>), RunFault>
-    ensures comes { Valid state → IfOk result (ComesTo (giving (I.map inbox.old) now) (IsTold (M.refusals patterns.old) (M.refusals patterns.new) (M.refused patterns.new)) state (plain command.now)) }
-    ensures log { GoesOn (H.log host.old) (H.log host.new) (RunsOne (giving (I.map inbox.old) now) (IsTold (M.refusals patterns.old) (M.refusals patterns.new) (M.refused patterns.new)) state (plain command.now) stage.old stage.new result) }
+    ensures comes { Valid state → IfOk result (ComesTo (giving (I.map inbox.old) now.now) (IsTold (M.refusals patterns.old) (M.refusals patterns.new) (M.refused patterns.new)) state (plain command.now)) }
+    ensures log { GoesOn (H.log host.old) (H.log host.new) (RunsOne (giving (I.map inbox.old) now.now) (IsTold (M.refusals patterns.old) (M.refusals patterns.new) (M.refused patterns.new)) state (plain command.now) stage.old stage.new result) }
     ensures host_cause { CauseOf HostFault (H.faults host.old) (H.faults host.new) result }
     ensures inbox_cause { CauseOf InboxFault (I.faults inbox.old) (I.faults inbox.new) result }
     ensures map { I.map inbox.new ≡ I.map inbox.old }
@@ -80,7 +80,7 @@ pub fn run_one<H: Host, I: Inbox, M: Patterns>(
     ensures map { I.map inbox.new ≡ I.map inbox.old }
     ensures later { M.refusals patterns.old ≤ M.refusals patterns.new }
 {
-    run_in(alloc, host, inbox, stage, state, command, now, patterns)
+    run_in(alloc, host, inbox, stage, state, command, &now, patterns)
 }
 
 /// How a call ends whose host gave this error.
@@ -125,11 +125,11 @@ fn turn<H: Host, I: Inbox, M: Patterns>(
     stage: &mut Stage,
     state: State,
     command: &Command,
-    now: i64,
+    now: &i64,
     patterns: &mut M,
 ) -> Result<State, Status>
-    ensures comes { Valid state → TurnComes (giving (I.map inbox.old) now) (IsTold (M.refusals patterns.old) (M.refusals patterns.new) (M.refused patterns.new)) state (plain command.now) result }
-    ensures log { GoesOn (H.log host.old) (H.log host.new) (Turns (giving (I.map inbox.old) now) (IsTold (M.refusals patterns.old) (M.refusals patterns.new) (M.refused patterns.new)) state (plain command.now) stage.old stage.new result) }
+    ensures comes { Valid state → TurnComes (giving (I.map inbox.old) now.now) (IsTold (M.refusals patterns.old) (M.refusals patterns.new) (M.refused patterns.new)) state (plain command.now) result }
+    ensures log { GoesOn (H.log host.old) (H.log host.new) (Turns (giving (I.map inbox.old) now.now) (IsTold (M.refusals patterns.old) (M.refusals patterns.new) (M.refused patterns.new)) state (plain command.now) stage.old stage.new result) }
     ensures host_later { H.faults host.old ≤ H.faults host.new }
     ensures host_fault { result ≡ Err Status.HostFault → Rose (H.faults host.old) (H.faults host.new) }
     ensures inbox_later { I.faults inbox.old ≤ I.faults inbox.new }
@@ -152,11 +152,11 @@ fn run_list<H: Host, I: Inbox, M: Patterns>(
     stage: &mut Stage,
     state: State,
     commands: &[Command],
-    now: i64,
+    now: &i64,
     patterns: &mut M,
 ) -> Status
-    ensures comes { Valid state → EndsWith (giving (I.map inbox.old) now) (IsTold (M.refusals patterns.old) (M.refusals patterns.new) (M.refused patterns.new)) state (map plain commands.now) result }
-    ensures log { GoesOn (H.log host.old) (H.log host.new) (RunsList (giving (I.map inbox.old) now) (IsTold (M.refusals patterns.old) (M.refusals patterns.new) (M.refused patterns.new)) state (map plain commands.now) stage.old result) }
+    ensures comes { Valid state → EndsWith (giving (I.map inbox.old) now.now) (IsTold (M.refusals patterns.old) (M.refusals patterns.new) (M.refused patterns.new)) state (map plain commands.now) result }
+    ensures log { GoesOn (H.log host.old) (H.log host.new) (RunsList (giving (I.map inbox.old) now.now) (IsTold (M.refusals patterns.old) (M.refusals patterns.new) (M.refused patterns.new)) state (map plain commands.now) stage.old result) }
     ensures host_later { H.faults host.old ≤ H.faults host.new }
     ensures host_fault { result ≡ Status.HostFault → Rose (H.faults host.old) (H.faults host.new) }
     ensures inbox_later { I.faults inbox.old ≤ I.faults inbox.new }
@@ -194,11 +194,11 @@ fn run_claimed<H: Host, I: Inbox, M: Patterns>(
     host: &mut H,
     inbox: &mut I,
     commands: &[Command],
-    now: i64,
+    now: &i64,
     patterns: &mut M,
 ) -> Status
-    ensures ended { IsEnd result → EndsFrom (giving (I.map inbox.old) now) (IsTold (M.refusals patterns.old) (M.refusals patterns.new) (M.refused patterns.new)) (map plain commands.now) result }
-    ensures log { GoesOn (H.log host.old) (H.log host.new) (RunsClaimed (giving (I.map inbox.old) now) (IsTold (M.refusals patterns.old) (M.refusals patterns.new) (M.refused patterns.new)) (map plain commands.now) result) }
+    ensures ended { IsEnd result → EndsFrom (giving (I.map inbox.old) now.now) (IsTold (M.refusals patterns.old) (M.refusals patterns.new) (M.refused patterns.new)) (map plain commands.now) result }
+    ensures log { GoesOn (H.log host.old) (H.log host.new) (RunsClaimed (giving (I.map inbox.old) now.now) (IsTold (M.refusals patterns.old) (M.refusals patterns.new) (M.refused patterns.new)) (map plain commands.now) result) }
     ensures host_later { H.faults host.old ≤ H.faults host.new }
     ensures host_fault { result ≡ Status.HostFault → Rose (H.faults host.old) (H.faults host.new) }
     ensures inbox_later { I.faults inbox.old ≤ I.faults inbox.new }
@@ -221,11 +221,11 @@ fn run_commands<H: Host, I: Inbox, M: Patterns>(
     host: &mut H,
     inbox: &mut I,
     commands: &[Command],
-    now: i64,
+    now: &i64,
     patterns: &mut M,
 ) -> Status
-    ensures ended { IsEnd result → EndsFrom (giving (I.map inbox.old) now) (IsTold (M.refusals patterns.old) (M.refusals patterns.new) (M.refused patterns.new)) (map plain commands.now) result }
-    ensures log { GoesOn (H.log host.old) (H.log host.new) (Called (giving (I.map inbox.old) now) (IsTold (M.refusals patterns.old) (M.refusals patterns.new) (M.refused patterns.new)) (map plain commands.now) result) }
+    ensures ended { IsEnd result → EndsFrom (giving (I.map inbox.old) now.now) (IsTold (M.refusals patterns.old) (M.refusals patterns.new) (M.refused patterns.new)) (map plain commands.now) result }
+    ensures log { GoesOn (H.log host.old) (H.log host.new) (Called (giving (I.map inbox.old) now.now) (IsTold (M.refusals patterns.old) (M.refusals patterns.new) (M.refused patterns.new)) (map plain commands.now) result) }
     ensures host_later { H.faults host.old ≤ H.faults host.new }
     ensures host_fault { result ≡ Status.HostFault → Rose (H.faults host.old) (H.faults host.new) }
     ensures inbox_later { I.faults inbox.old ≤ I.faults inbox.new }
@@ -258,7 +258,7 @@ fn run_now<H: Host, I: Inbox, M: Patterns>(
     ensures differs { (damage : Damage) → result ≡ Status.Damaged damage → IsDifference damage }
     ensures only { (place : ℕ) → result ≡ Status.Usage place → ⊥ }
 {
-    run_commands(alloc, host, inbox, commands, now, patterns)
+    run_commands(alloc, host, inbox, commands, &now, patterns)
 }
 
 /// Says the usage line.

@@ -25,7 +25,7 @@ returns-in_err-outcome-clause-log g c =
     let e = err_from_is_err_and c.from_residual.result c.from_residual.ensures.1 in
     let cmd = plain c.args.command.now in
     let s = c.args.state in
-    let given = giving (g.I.Inbox.map c.args.inbox.now) c.args.now in
+    let given = giving (g.I.Inbox.map c.args.inbox.now) c.args.now.now in
     GoesOn-map _ _ _ _ c.decide.ensures.log (λ l p w. runs_err given _ s cmd _ _ _ e.0 l p e.1 (taking_work l p w.grows.kinds) (λ may. (None, tt, broke_taking given l s cmd p w.grows (w.nothing (rest_valid s l may.rest)) may.rest)))
 
 pub returns-in_err-save-clause-log : goal.returns-in_err-save-clause-log
@@ -33,7 +33,7 @@ returns-in_err-save-clause-log g c =
     let e = err_from_is_err_and c.from_residual-in_err-save.result c.from_residual-in_err-save.ensures.1 in
     let cmd = plain c.args.command.now in
     let s = c.args.state in
-    let given = giving (g.I.Inbox.map c.args.inbox.now) c.args.now in
+    let given = giving (g.I.Inbox.map c.args.inbox.now) c.args.now.now in
     let out = c.in_ok-outcome.outcome in
     let before = c.args.stage.now in
     let mid = c.decide.new.stage in
@@ -50,7 +50,7 @@ returns-in_err-say-clause-log g c =
     let e = err_from_is_err_and c.from_residual-in_err-say.result c.from_residual-in_err-say.ensures.1 in
     let cmd = plain c.args.command.now in
     let s = c.args.state in
-    let given = giving (g.I.Inbox.map c.args.inbox.now) c.args.now in
+    let given = giving (g.I.Inbox.map c.args.inbox.now) c.args.now.now in
     let out = c.in_ok-outcome.outcome in
     let before = c.args.stage.now in
     let mid = c.decide.new.stage in
@@ -76,7 +76,7 @@ pub returns-clause-comes : goal.returns-clause-comes
 returns-clause-comes g c valid =
     let cmd = plain c.args.command.now in
     let s = c.args.state in
-    let given = giving (g.I.Inbox.map c.args.inbox.now) c.args.now in
+    let given = giving (g.I.Inbox.map c.args.inbox.now) c.args.now.now in
     let out = c.in_ok-outcome.outcome in
     let step = c.in_ok-outcome.ensures.comes valid in
     subst (λ (t : StateView). Valid t × (x : List ℕ) × (large : Option (List ℕ)) × IsTold (g.M.Patterns.refusals c.args.patterns.now) (g.M.Patterns.refusals c.decide.new.patterns) (g.M.Patterns.refused c.decide.new.patterns) large × Steps given large s cmd (record { reply = x; refusal = out.refusal; state = t })) (sym c.unwrap_or.ensures)
@@ -86,7 +86,7 @@ pub returns-clause-log : goal.returns-clause-log
 returns-clause-log g c =
     let cmd = plain c.args.command.now in
     let s = c.args.state in
-    let given = giving (g.I.Inbox.map c.args.inbox.now) c.args.now in
+    let given = giving (g.I.Inbox.map c.args.inbox.now) c.args.now.now in
     let out = c.in_ok-outcome.outcome in
     let before = c.args.stage.now in
     let mid = c.decide.new.stage in

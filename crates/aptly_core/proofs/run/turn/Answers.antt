@@ -11,14 +11,14 @@ use Rattle.aptly_core.proofs.run.turn.Goals as goal
 
 pub returns-in-Ok-clause-comes : goal.returns-in-Ok-clause-comes
 returns-in-Ok-clause-comes g c valid =
-    let given = giving (g.I.Inbox.map c.args.inbox.now) c.args.now in
+    let given = giving (g.I.Inbox.map c.args.inbox.now) c.args.now.now in
     let Told : Option (List ℕ) → Type 0 = IsTold (g.M.Patterns.refusals c.args.patterns.now) (g.M.Patterns.refusals c.run_in.new.patterns) (g.M.Patterns.refused c.run_in.new.patterns) in
     let cmd = plain c.args.command.now in
     subst (λ (r : Result StateView Status). TurnComes given Told c.args.state cmd r) (sym c.next_of.ensures) (turn_comes given Told c.args.state cmd c.in-Ok.done (c.in-Ok.ensures.comes valid))
 
 pub returns-in-Ok-clause-log : goal.returns-in-Ok-clause-log
 returns-in-Ok-clause-log g c =
-    let given = giving (g.I.Inbox.map c.args.inbox.now) c.args.now in
+    let given = giving (g.I.Inbox.map c.args.inbox.now) c.args.now.now in
     let Told : Option (List ℕ) → Type 0 = IsTold (g.M.Patterns.refusals c.args.patterns.now) (g.M.Patterns.refusals c.run_in.new.patterns) (g.M.Patterns.refused c.run_in.new.patterns) in
     let cmd = plain c.args.command.now in
     let before = c.args.stage.now in
@@ -27,7 +27,7 @@ returns-in-Ok-clause-log g c =
 
 pub returns-in-Err-clause-log : goal.returns-in-Err-clause-log
 returns-in-Err-clause-log g c =
-    let given = giving (g.I.Inbox.map c.args.inbox.now) c.args.now in
+    let given = giving (g.I.Inbox.map c.args.inbox.now) c.args.now.now in
     let Told : Option (List ℕ) → Type 0 = IsTold (g.M.Patterns.refusals c.args.patterns.now) (g.M.Patterns.refusals c.run_in.new.patterns) (g.M.Patterns.refused c.run_in.new.patterns) in
     let cmd = plain c.args.command.now in
     let before = c.args.stage.now in
