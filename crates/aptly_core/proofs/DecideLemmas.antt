@@ -189,7 +189,7 @@ refused_early given old new large s c r out is w = (w.0, w.1, subst (Step given 
 -- what is told of a call behind another is told of both
 pub told_wider : (old mid new : ℕ) (refused large : Option (List ℕ)) → old ≤ mid → IsTold mid new refused large → IsTold old new refused large
 told_wider old mid new refused None le told = tt
-told_wider old mid new refused (Some text) le told = (elim told.0 [ inl more ↦ inl (omega (arith, le, more)) | inr full ↦ inr full ], told.1)
+told_wider old mid new refused (Some text) le told = (omega (arith, le, told.0), told.1)
 
 pub comes_wider : (given : Given) (old mid new : ℕ) (refused : Option (List ℕ)) (s : StateView) (c : PlainCommand) (r : Result Made RunFault) → old ≤ mid → IfOk r (λ outcome. Told mid new refused (λ large. Step given large s c (seen s outcome))) → IfOk r (λ outcome. Told old new refused (λ large. Step given large s c (seen s outcome)))
 comes_wider given old mid new refused s c (Ok out) le w = (w.0, told_wider old mid new refused w.0 le w.1, w.2)

@@ -15,7 +15,7 @@ use ap_host::{Host, Inbox};
 use command_words::Command;
 use local_repo::add;
 use machine_state::{Arrived, ChangeFault, State, UpdateFault};
-use machine_step::{Outcome, Reading, need, step};
+use machine_step::{Outcome, Reading, need, step_at};
 use query_eval::Patterns;
 use stage_file::Stage;
 use std::alloc::Global;
@@ -80,7 +80,7 @@ fn decide_with<H: Host, I: Inbox, M: Patterns>(
     ensures inbox_cause { CauseOf InboxFault (I.faults inbox.old) (I.faults inbox.new) result }
 {
     let arrived = arrive(alloc, host, inbox, stage, state, reading)?;
-    Ok(step(alloc, state, command, arrived, *now, patterns)?)
+    Ok(step_at(alloc, state, command, arrived, now, patterns)?)
 }
 
 /// What a command comes to in a valid state. Files that it takes in are in the pool then, and durable only after the next

@@ -13,4 +13,4 @@ pub use laws::laws_of_steps;
 pub use needs::need;
 pub use outcome::Outcome;
 pub use step_model::Reading;
-pub use steps::step;
+pub use steps::{step, step_at};

@@ -41,6 +41,35 @@ fn change_of<M: Patterns>(
 /// that holds. `now` is in seconds since 1970. Fails only for want of memory.
 ///
 /// What arrived is nothing where [`need`](crate::need) refuses or reads nothing.
+pub fn step_at<M: Patterns>(
+    alloc: Global,
+    state: &State,
+    command: &Command,
+    arrived: Arrived,
+    now: &i64,
+    patterns: &mut M,
+) -> Result<Outcome, AllocError>
+    ensures step { (inbox : Option Files) (large : Option (List ℕ)) → Valid state.now → MayArrive (giving inbox now.now) large state.now (read_for now.now state.now (plain command.now)) arrived → IfOk result (λ outcome. Told (M.refusals patterns.old) (M.refusals patterns.new) (M.refused patterns.new) (λ large. StepWith now.now large state.now (plain command.now) arrived (seen state.now outcome))) }
+    // A state is new only where it is another one.
+    ensures changed { (inbox : Option Files) (large : Option (List ℕ)) → Valid state.now → MayArrive (giving inbox now.now) large state.now (read_for now.now state.now (plain command.now)) arrived → IfOk result (λ outcome. IsNew state.now outcome.state) }
+    // A refused command leaves the state as it was.
+    ensures kept { IfOk result (λ outcome. IsSome outcome.refusal → outcome.state ≡ None) }
+    ensures never_falls { M.refusals patterns.old ≤ M.refusals patterns.new }
+    // Which text was refused for its size changes only where such a pattern is told.
+    ensures untold { IfOk result (λ outcome. KeepsUnlessTold (M.refused patterns.old) (M.refused patterns.new) outcome.refusal) }
+{
+    match change_of(alloc, state, command, &arrived, patterns) {
+        Ok(change) => Ok(Outcome {
+            state: change.state,
+            reply: change.reply,
+            refusal: None,
+        }),
+        Err(ChangeFault::Refused(refusal)) => Outcome::refused(alloc, refusal),
+        Err(ChangeFault::OutOfMemory) => Err(AllocError),
+    }
+}
+
+/// [`step_at`] with the moment by value.
 pub fn step<M: Patterns>(
     alloc: Global,
     state: &State,
@@ -58,13 +87,5 @@ pub fn step<M: Patterns>(
     // Which text was refused for its size changes only where such a pattern is told.
     ensures untold { IfOk result (λ outcome. KeepsUnlessTold (M.refused patterns.old) (M.refused patterns.new) outcome.refusal) }
 {
-    match change_of(alloc, state, command, &arrived, patterns) {
-        Ok(change) => Ok(Outcome {
-            state: change.state,
-            reply: change.reply,
-            refusal: None,
-        }),
-        Err(ChangeFault::Refused(refusal)) => Outcome::refused(alloc, refusal),
-        Err(ChangeFault::OutOfMemory) => Err(AllocError),
-    }
+    step_at(alloc, state, command, arrived, &now, patterns)
 }
