@@ -20,7 +20,30 @@ pub(crate) struct Plan {
     pub(crate) pattern: Vec<u64>,
 }
 
+/// What is planned for a call, to be read.
+#[derive(Clone, Copy)]
+pub(crate) struct Planned<'a> {
+    /// The store is found taken.
+    pub(crate) taken: bool,
+    /// The calls of the host that fail.
+    pub(crate) host: &'a [u64],
+    /// The calls of the inbox that fail.
+    pub(crate) inbox: &'a [u64],
+    /// The calls of the pattern builder that fail.
+    pub(crate) pattern: &'a [u64],
+}
+
 impl Plan {
+    /// What is planned, to be read.
+    pub(crate) fn as_planned(&self) -> Planned<'_> {
+        Planned {
+            taken: self.taken,
+            host: self.host.as_slice(),
+            inbox: self.inbox.as_slice(),
+            pattern: self.pattern.as_slice(),
+        }
+    }
+
     /// Nothing is planned.
     pub(crate) fn new(alloc: Global) -> Plan {
         Plan {
@@ -61,6 +84,64 @@ impl Call {
     }
 }
 
+/// These ordinals once more.
+fn ordinals(alloc: Global, planned: &[u64]) -> Result<Vec<u64>, AllocError> {
+    Ok(Vec::from_slice(alloc, planned)?)
+}
+
+/// A host over these files.
+fn host_over(alloc: Global, store: &Files, plan: Planned<'_>) -> Result<MemHost, AllocError> {
+    let failing = ordinals(alloc, plan.host)?;
+    let base = store.to_entries(alloc)?;
+    MemHost::new(alloc, base, failing, plan.taken)
+}
+
+/// An inbox over these files.
+fn inbox_over(alloc: Global, input: &Files, plan: Planned<'_>) -> Result<MemInbox, AllocError> {
+    let failing = ordinals(alloc, plan.inbox)?;
+    let files = input.to_entries(alloc)?;
+    Ok(MemInbox::new(files, failing))
+}
+
+/// A status other than that memory was wanting.
+fn judged(status: Status) -> Result<Status, Trouble> {
+    match status {
+        Status::OutOfMemory => Err(Trouble::OutOfMemory),
+        status => Ok(status),
+    }
+}
+
+/// Calls `aptly` over a host and an inbox.
+fn status_over(
+    alloc: Global,
+    words: &Words,
+    now: i64,
+    host: &mut MemHost,
+    inbox: &mut MemInbox,
+    plan: Planned<'_>,
+) -> Result<Status, Trouble> {
+    let mut patterns = MemPatterns::new(alloc, ordinals(alloc, plan.pattern)?);
+    judged(aptly(alloc, words, now, host, inbox, &mut patterns))
+}
+
+/// Calls `aptly` over these files and an inbox.
+fn call_over(
+    alloc: Global,
+    words: &Words,
+    now: i64,
+    store: &Files,
+    inbox: &mut MemInbox,
+    plan: Planned<'_>,
+) -> Result<Call, Trouble> {
+    let mut host = host_over(alloc, store, plan)?;
+    let status = status_over(alloc, words, now, &mut host, inbox, plan)?;
+    Ok(Call {
+        status,
+        host,
+        inbox_faults: inbox.faults(),
+    })
+}
+
 /// Calls `aptly` over these files, at this moment in seconds since 1970.
 pub(crate) fn make_call(
     alloc: Global,
@@ -68,18 +149,8 @@ pub(crate) fn make_call(
     now: i64,
     store: &Files,
     input: &Files,
-    plan: Plan,
+    plan: Planned<'_>,
 ) -> Result<Call, Trouble> {
-    let base = store.to_entries(alloc)?;
-    let mut host = MemHost::new(alloc, base, plan.host, plan.taken)?;
-    let mut inbox = MemInbox::new(input.to_entries(alloc)?, plan.inbox);
-    let mut patterns = MemPatterns::new(alloc, plan.pattern);
-    match aptly(alloc, words, now, &mut host, &mut inbox, &mut patterns) {
-        Status::OutOfMemory => Err(Trouble::OutOfMemory),
-        status => Ok(Call {
-            status,
-            host,
-            inbox_faults: inbox.faults(),
-        }),
-    }
+    let mut inbox = inbox_over(alloc, input, plan)?;
+    call_over(alloc, words, now, store, &mut inbox, plan)
 }

@@ -1,7 +1,8 @@
 //! What each directive does.
 use crate::arguments::{bytes_of, filled, moment, nothing, number, numbers, one, path, three, two};
+use crate::call::Call;
 use crate::files::Files;
-use crate::print::{put, put_bytes, put_call, put_file, put_op};
+use crate::print::{put_all, put_bytes, put_call, put_file, put_op};
 use crate::sweeps::{Side, faults, stops};
 use crate::trouble::Trouble;
 use crate::words::{words_of_block, words_of_line};
@@ -14,18 +15,26 @@ use std::alloc::Global;
 fn begin(world: &mut World, out: &mut Vec<u8>, rest: Option<&str>) -> Result<(), Trouble> {
     let name = one(rest)?;
     *world = World::new(world.alloc)?;
-    put(out, "scene ")?;
-    put(out, name)?;
-    put(out, "\n")?;
-    Ok(())
+    Ok(put_all(out, &["scene ", name, "\n"])?)
+}
+
+/// The scene's store is what a call left live; prints what the call came to.
+fn tell(world: &mut World, out: &mut Vec<u8>, shown: &str, call: &Call) -> Result<(), Trouble> {
+    world.store = call.live()?;
+    Ok(put_call(world.alloc, out, shown, call)?)
+}
+
+/// A call that was made is the last one.
+fn follow(world: &mut World, out: &mut Vec<u8>, shown: &str, call: Call) -> Result<(), Trouble> {
+    let told = tell(world, out, shown, &call);
+    world.last = call.host;
+    told
 }
 
 /// Makes a call, and prints what it came to.
 fn speak(world: &mut World, out: &mut Vec<u8>, words: &Words, shown: &str) -> Result<(), Trouble> {
     let call = world.forward(words)?;
-    put_call(world.alloc, out, shown, &call)?;
-    world.last = call.host;
-    Ok(())
+    follow(world, out, shown, call)
 }
 
 /// A call of the words behind the directive.
@@ -88,6 +97,17 @@ fn stop(world: &mut World, rest: Option<&str>) -> Result<(), Trouble> {
     Ok(())
 }
 
+/// A call of the words behind the directive on each image of the last one.
+fn stops_of(
+    world: &World,
+    out: &mut Vec<u8>,
+    choices: &[u64],
+    rest: Option<&str>,
+) -> Result<(), Trouble> {
+    let words = words_of_line(world.alloc, rest)?;
+    stops(world, out, choices, &words)
+}
+
 /// A call on each image of the last one.
 fn each_stop(world: &World, out: &mut Vec<u8>, rest: Option<&str>) -> Result<(), Trouble> {
     let Some(text) = rest else {
@@ -98,8 +118,7 @@ fn each_stop(world: &World, out: &mut Vec<u8>, rest: Option<&str>) -> Result<(),
         Some((choices, more)) => (choices, Some(more)),
     };
     let choices = numbers(world.alloc, choices, ',')?;
-    let words = words_of_line(world.alloc, more)?;
-    stops(world, out, &choices, &words)
+    stops_of(world, out, &choices, more)
 }
 
 /// A call with each of the calls of this side failing in turn.

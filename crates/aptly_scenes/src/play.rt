@@ -113,10 +113,10 @@ fn play_lines(world: &mut World, out: &mut Vec<u8>, text: &[u8]) -> Result<(), A
 
 /// Plays a text of scenes. What is printed stands in `out`, after an error too.
 pub(crate) fn play(alloc: Global, out: &mut Vec<u8>, text: &[u8]) -> Result<(), AllocError> {
-    let mut world = World::new(alloc)?;
     if text.is_empty() {
         return Ok(());
     }
     let lines = text.strip_suffix(b"\n").unwrap_or(text);
+    let mut world = World::new(alloc)?;
     play_lines(&mut world, out, lines)
 }

@@ -6,6 +6,14 @@ use aptly_core::{Damage, Status};
 use sha2::{Digest, Sha256};
 use std::alloc::{AllocError, Global};
 
+/// Adds these texts behind each other.
+pub(crate) fn put_all(out: &mut Vec<u8>, parts: &[&str]) -> Result<(), AllocError> {
+    for part in parts {
+        put(out, part)?;
+    }
+    Ok(())
+}
+
 /// Adds text.
 pub(crate) fn put(out: &mut Vec<u8>, text: &str) -> Result<(), AllocError> {
     out.extend_from_slice(text.as_bytes())?;
@@ -78,6 +86,15 @@ fn put_status(alloc: Global, out: &mut Vec<u8>, status: &Status) -> Result<(), A
     put(out, "\n")
 }
 
+/// Adds what was said, and an LF where it has something and doesn't end with one.
+fn put_said(alloc: Global, out: &mut Vec<u8>, call: &Call) -> Result<(), AllocError> {
+    let said = call.said(alloc)?;
+    if said.is_empty() {
+        return Ok(());
+    }
+    put_whole(out, &said)
+}
+
 /// Adds the words of a call as they are shown, what was said and the status.
 pub(crate) fn put_call(
     alloc: Global,
@@ -85,13 +102,8 @@ pub(crate) fn put_call(
     shown: &str,
     call: &Call,
 ) -> Result<(), AllocError> {
-    put(out, "> ")?;
-    put(out, shown)?;
-    put(out, "\n")?;
-    let said = call.said(alloc)?;
-    if !said.is_empty() {
-        put_whole(out, &said)?;
-    }
+    put_all(out, &["> ", shown, "\n"])?;
+    put_said(alloc, out, call)?;
     put_status(alloc, out, &call.status)
 }
 
@@ -120,28 +132,14 @@ pub(crate) fn put_op(out: &mut Vec<u8>, op: &Op) -> Result<(), AllocError> {
         Op::Claim(true) => put(out, "claim yes")?,
         Op::Claim(false) => put(out, "claim no")?,
         Op::Barrier => put(out, "barrier")?,
-        Op::Create(path) => {
-            put(out, "create")?;
-            put_path(out, path)?;
-        }
+        Op::Create(path) => put_all(out, &["create ", path.as_str()])?,
         Op::Append(path, bytes) => {
-            put(out, "append")?;
-            put_path(out, path)?;
+            put_all(out, &["append ", path.as_str()])?;
             put_number(out, bytes.len() as u64)?;
         }
-        Op::Sync(path) => {
-            put(out, "sync")?;
-            put_path(out, path)?;
-        }
-        Op::Rename(from, to) => {
-            put(out, "rename")?;
-            put_path(out, from)?;
-            put_path(out, to)?;
-        }
-        Op::Remove(path) => {
-            put(out, "remove")?;
-            put_path(out, path)?;
-        }
+        Op::Sync(path) => put_all(out, &["sync ", path.as_str()])?,
+        Op::Rename(from, to) => put_all(out, &["rename ", from.as_str(), " ", to.as_str()])?,
+        Op::Remove(path) => put_all(out, &["remove ", path.as_str()])?,
         Op::Say(bytes) => {
             put(out, "say")?;
             put_number(out, bytes.len() as u64)?;

@@ -1,5 +1,6 @@
 //! Lines of numbered texts, where those in a row with the same text are one line.
 use crate::print::put;
+use crate::trouble::Trouble;
 use ap_text::write_decimal;
 use std::alloc::AllocError;
 
@@ -12,7 +13,7 @@ pub(crate) struct Row {
 }
 
 /// Adds the line of a row.
-pub(crate) fn put_row(out: &mut Vec<u8>, head: &str, row: &Row) -> Result<(), AllocError> {
+fn put_row(out: &mut Vec<u8>, head: &str, row: &Row) -> Result<(), AllocError> {
     put(out, head)?;
     write_decimal(out, row.first)?;
     if row.first < row.last {
@@ -44,4 +45,12 @@ pub(crate) fn add_row(
         last: number,
         text,
     }))
+}
+
+/// Adds the line of the last row, if there is one.
+pub(crate) fn end_rows(out: &mut Vec<u8>, head: &str, row: Option<Row>) -> Result<(), Trouble> {
+    match row {
+        Some(last) => Ok(put_row(out, head, &last)?),
+        None => Ok(()),
+    }
 }

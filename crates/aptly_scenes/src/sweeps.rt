@@ -1,38 +1,72 @@
 //! A call on each image of the last one, and a call with each of its calls failing in turn.
 ghost use Rattle.std.specs.Prelude.{◌≤◌, length};
 
-use crate::call::{Call, Plan};
+use crate::call::{Call, Planned};
 use crate::files::Files;
 use crate::print::{put, put_short};
-use crate::rows::{add_row, put_row};
+use crate::rows::{add_row, end_rows};
 use crate::trouble::Trouble;
+use crate::words::words_of_line;
 use crate::world::World;
 use command_words::Words;
-use std::alloc::Global;
 
-/// What these words come to on an image of the last call.
-fn stopped(world: &World, words: &Words, upto: usize, choice: u64) -> Result<Vec<u8>, Trouble>
+/// Adds what these words come to over a store, where nothing is planned.
+fn put_over(
+    world: &World,
+    text: &mut Vec<u8>,
+    words: &Words,
+    store: &Files,
+) -> Result<(), Trouble> {
+    let plan = Planned {
+        taken: false,
+        host: &[],
+        inbox: &[],
+        pattern: &[],
+    };
+    let call = world.aside(words, store, plan)?;
+    put_made(world, text, &call)
+}
+
+/// Adds the status of a call and what was said, in one line.
+fn put_made(world: &World, text: &mut Vec<u8>, call: &Call) -> Result<(), Trouble> {
+    Ok(put_short(world.alloc, text, call)?)
+}
+
+/// Adds what these words come to on an image of the last call.
+fn put_stopped(
+    world: &World,
+    text: &mut Vec<u8>,
+    words: &Words,
+    upto: usize,
+    choice: u64,
+) -> Result<(), Trouble>
     requires { upto ≤ length world.now.last.ops }
 {
     let image = Files::image(&world.last, upto, choice)?;
-    let call = world.aside(words, &image, Plan::new(world.alloc))?;
-    let mut text = Vec::new(world.alloc);
-    put_short(world.alloc, &mut text, &call)?;
-    Ok(text)
+    put_over(world, text, words, &image)
 }
 
 /// Adds the lines of one choice.
 fn put_stops(world: &World, out: &mut Vec<u8>, words: &Words, choice: u64) -> Result<(), Trouble> {
     let head = format!(in world.alloc; "stop {choice} ")?;
+    put_rows(world, out, words, choice, head.as_str())
+}
+
+/// Adds the lines of one choice, which begin with this head.
+fn put_rows(
+    world: &World,
+    out: &mut Vec<u8>,
+    words: &Words,
+    choice: u64,
+    head: &str,
+) -> Result<(), Trouble> {
     let mut row = None;
     for upto in 0..=world.last.log().len() {
-        let text = stopped(world, words, upto, choice)?;
-        row = add_row(out, head.as_str(), row, upto as u64, text)?;
+        let mut text = Vec::new(world.alloc);
+        put_stopped(world, &mut text, words, upto, choice)?;
+        row = add_row(out, head, row, upto as u64, text)?;
     }
-    if let Some(last) = row {
-        put_row(out, head.as_str(), &last)?;
-    }
-    Ok(())
+    end_rows(out, head, row)
 }
 
 /// Adds the lines of each choice.
@@ -56,14 +90,18 @@ pub(crate) enum Side {
 }
 
 impl Side {
-    /// The plan that one call of this side fails.
-    fn plan(self, alloc: Global, ordinal: u64) -> Result<Plan, Trouble> {
-        let mut plan = Plan::new(alloc);
-        match self {
-            Side::Host => plan.host.push(ordinal)?,
-            Side::Inbox => plan.inbox.push(ordinal)?,
+    /// The plan that these calls of this side fail.
+    fn plan(self, ordinals: &[u64]) -> Planned<'_> {
+        let (host, inbox): (&[u64], &[u64]) = match self {
+            Side::Host => (ordinals, &[]),
+            Side::Inbox => (&[], ordinals),
+        };
+        Planned {
+            taken: false,
+            host,
+            inbox,
+            pattern: &[],
         }
-        Ok(plan)
     }
 
     /// How many calls of this side failed.
@@ -75,14 +113,59 @@ impl Side {
     }
 }
 
-/// What a call came to, and what `repo list` comes to on what it left live.
-fn with_list(world: &World, call: &Call, list: &Words) -> Result<Vec<u8>, Trouble> {
-    let listed = world.aside(list, &call.live()?, Plan::new(world.alloc))?;
-    let mut text = Vec::new(world.alloc);
-    put_short(world.alloc, &mut text, call)?;
-    put(&mut text, " ; ")?;
-    put_short(world.alloc, &mut text, &listed)?;
-    Ok(text)
+/// Adds what `repo list` comes to on what a call left live.
+fn put_list(world: &World, text: &mut Vec<u8>, list: &Words, call: &Call) -> Result<(), Trouble> {
+    let live = call.live()?;
+    put_over(world, text, list, &live)
+}
+
+/// Adds what a call came to, and what `repo list` comes to on what it left live; false where no call of this side failed.
+fn put_faulty(
+    world: &World,
+    text: &mut Vec<u8>,
+    list: &Words,
+    side: Side,
+    call: &Call,
+) -> Result<bool, Trouble> {
+    if side.faults(call) == 0 {
+        return Ok(false);
+    }
+    put_made(world, text, call)?;
+    put(text, " ; ")?;
+    put_list(world, text, list, call)?;
+    Ok(true)
+}
+
+/// Adds what a call with the one of this ordinal failing came to; false where no call failed.
+fn put_fault(
+    world: &World,
+    text: &mut Vec<u8>,
+    words: &Words,
+    list: &Words,
+    side: Side,
+    ordinal: u64,
+) -> Result<bool, Trouble> {
+    let call = world.aside(words, &world.store, side.plan(&[ordinal]))?;
+    put_faulty(world, text, list, side, &call)
+}
+
+/// Adds the lines of each ordinal, up to the first at which no call failed; `list` are the words `repo list`.
+fn put_faults(
+    world: &World,
+    out: &mut Vec<u8>,
+    side: Side,
+    words: &Words,
+    list: &Words,
+) -> Result<(), Trouble> {
+    let mut row = None;
+    for ordinal in 0..u64::MAX {
+        let mut text = Vec::new(world.alloc);
+        if !put_fault(world, &mut text, words, list, side, ordinal)? {
+            break;
+        }
+        row = add_row(out, "fault ", row, ordinal, text)?;
+    }
+    end_rows(out, "fault ", row)
 }
 
 /// Adds the lines of each ordinal, up to the first at which no call failed.
@@ -92,20 +175,6 @@ pub(crate) fn faults(
     side: Side,
     words: &Words,
 ) -> Result<(), Trouble> {
-    let mut list = Words::new(world.alloc);
-    list.push("repo")?;
-    list.push("list")?;
-    let mut row = None;
-    for ordinal in 0..u64::MAX {
-        let call = world.aside(words, &world.store, side.plan(world.alloc, ordinal)?)?;
-        if side.faults(&call) == 0 {
-            break;
-        }
-        let text = with_list(world, &call, &list)?;
-        row = add_row(out, "fault ", row, ordinal, text)?;
-    }
-    if let Some(last) = row {
-        put_row(out, "fault ", &last)?;
-    }
-    Ok(())
+    let list = words_of_line(world.alloc, Some("repo list"))?;
+    put_faults(world, out, side, words, &list)
 }

@@ -1,11 +1,10 @@
 //! What a scene has.
-use crate::call::{Call, Plan, make_call};
+use crate::call::{Call, Plan, Planned, make_call};
 use crate::files::Files;
 use crate::trouble::Trouble;
 use ap_host::MemHost;
 use command_words::Words;
 use std::alloc::{AllocError, Global};
-use std::mem;
 
 /// What a scene has.
 #[derive(Drop)]
@@ -36,15 +35,19 @@ impl World {
     }
 
     /// A call by itself over this store. The scene stays as it is.
-    pub(crate) fn aside(&self, words: &Words, store: &Files, plan: Plan) -> Result<Call, Trouble> {
+    pub(crate) fn aside(
+        &self,
+        words: &Words,
+        store: &Files,
+        plan: Planned<'_>,
+    ) -> Result<Call, Trouble> {
         make_call(self.alloc, words, self.now, store, &self.inbox, plan)
     }
 
-    /// The next call, as it is planned. The scene's store is then what it left live.
+    /// The next call, as it is planned; nothing is planned any more then.
     pub(crate) fn forward(&mut self, words: &Words) -> Result<Call, Trouble> {
-        let plan = mem::replace(&mut self.plan, Plan::new(self.alloc));
-        let call = self.aside(words, &self.store, plan)?;
-        self.store = call.live()?;
-        Ok(call)
+        let made = self.aside(words, &self.store, self.plan.as_planned());
+        self.plan = Plan::new(self.alloc);
+        made
     }
 }
