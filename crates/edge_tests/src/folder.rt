@@ -8,11 +8,32 @@ use std::rt::Files;
 use std::test::Fail;
 use std::{env, fs, process};
 
+/// The paths that are tried.
+#[derive(Drop)]
+struct Paths {
+    /// A file that is laid.
+    staged: SafePath,
+    /// The path that it is given then, in `folder`.
+    root: SafePath,
+    folder: SafePath,
+    /// The path of that file from the folder above the store's.
+    stored: SafePath,
+}
+
 fn path(alloc: Global, text: &str) -> Result<SafePath, HostErr> {
     match SafePath::new(alloc, text) {
         Ok(path) => Ok(path),
         Err(_) => Err(HostErr::OutOfMemory),
     }
+}
+
+fn all_paths(alloc: Global) -> Result<Paths, HostErr> {
+    Ok(Paths {
+        staged: path(alloc, "stage/0")?,
+        root: path(alloc, "db/root")?,
+        folder: path(alloc, "db")?,
+        stored: path(alloc, "aptly-store/db/root")?,
+    })
 }
 
 /// Lays a file, and gives it another path.
@@ -64,6 +85,15 @@ fn taken<R: Files<File = File> + AllocGlobal + Clone + Drop>(
     inbox.read_at(file, 0, &mut out)
 }
 
+/// Whether a further host gets the store.
+fn is_claimed<R: Files<File = File> + Print + AllocGlobal + Clone + Drop>(
+    rt: &R,
+    folder: &str,
+) -> Result<bool, HostErr> {
+    let mut host = FolderHost::new(rt, folder)?;
+    host.claim()
+}
+
 /// Whether a host gets the store, and a second one doesn't.
 fn is_claimed_once<R: Files<File = File> + Print + AllocGlobal + Clone + Drop>(
     rt: &R,
@@ -71,21 +101,21 @@ fn is_claimed_once<R: Files<File = File> + Print + AllocGlobal + Clone + Drop>(
     folder: &str,
 ) -> Result<bool, HostErr> {
     let first = host.claim()?;
-    Ok(first && !FolderHost::new(rt, folder)?.claim()?)
+    let second = is_claimed(rt, folder)?;
+    Ok(first && !second)
 }
 
 /// Whether a file that is laid is read back, and is its folder's only one, and the staged one is gone.
 fn is_laid<R: Files<File = File> + Print + AllocGlobal + Clone + Drop>(
     host: &mut FolderHost<'_, R>,
-    staged: &SafePath,
-    root: &SafePath,
-    folder: &SafePath,
+    paths: &Paths,
 ) -> Result<bool, HostErr> {
-    lay(host, staged, root)?;
-    let gone = matches!(read(host, staged)?, (None, 0, [0, 0, 0]));
-    let there = matches!(read(host, root)?, (Some(5), 2, [b'l', b'o', 0]));
-    let fails = matches!(host.append(staged, b"!"), Err(HostErr::Failed));
-    Ok(gone && there && fails && has_only(host, folder, root)?)
+    lay(host, &paths.staged, &paths.root)?;
+    let gone = matches!(read(host, &paths.staged)?, (None, 0, [0, 0, 0]));
+    let there = matches!(read(host, &paths.root)?, (Some(5), 2, [b'l', b'o', 0]));
+    let fails = matches!(host.append(&paths.staged, b"!"), Err(HostErr::Failed));
+    let only = has_only(host, &paths.folder, &paths.root)?;
+    Ok(gone && there && fails && only)
 }
 
 /// Whether an inbox gives a file of the folder, and none of the folder below it where a store is.
@@ -93,10 +123,26 @@ fn is_given<R: Files<File = File> + AllocGlobal + Clone + Drop>(
     rt: &R,
     above: &str,
     folder: &str,
-    root: &SafePath,
-    stored: &SafePath,
+    paths: &Paths,
 ) -> bool {
-    matches!(taken(rt, folder, root), Ok(3)) && matches!(taken(rt, above, stored), Ok(0))
+    matches!(taken(rt, folder, &paths.root), Ok(3))
+        && matches!(taken(rt, above, &paths.stored), Ok(0))
+}
+
+/// Whether all is as it should be of a store in a folder, where these paths are tried.
+fn is_well_at<R: Files<File = File> + Print + AllocGlobal + Clone + Drop>(
+    rt: &R,
+    host: &mut FolderHost<'_, R>,
+    above: &str,
+    folder: &str,
+    paths: &Paths,
+) -> Result<bool, HostErr> {
+    let claimed = is_claimed_once(rt, host, folder)?;
+    let laid = is_laid(host, paths)?;
+    let given = is_given(rt, above, folder, paths);
+    host.remove(&paths.root)?;
+    host.say(b"")?;
+    Ok(claimed && laid && given)
 }
 
 /// Whether all is as it should be of a store in a folder.
@@ -106,24 +152,11 @@ fn is_well<R: Files<File = File> + Print + AllocGlobal + Clone + Drop>(
     above: &str,
     folder: &str,
 ) -> Result<bool, HostErr> {
-    let alloc = rt.alloc();
-    let staged = path(alloc, "stage/0")?;
-    let root = path(alloc, "db/root")?;
-    let claimed = is_claimed_once(rt, host, folder)?;
-    let laid = is_laid(host, &staged, &root, &path(alloc, "db")?)?;
-    let given = is_given(
-        rt,
-        above,
-        folder,
-        &root,
-        &path(alloc, "aptly-store/db/root")?,
-    );
-    host.remove(&root)?;
-    host.say(b"")?;
-    Ok(claimed && laid && given)
+    let paths = all_paths(rt.alloc())?;
+    is_well_at(rt, host, above, folder, &paths)
 }
 
-fn is_store_well<R: Files<File = File> + Print + AllocGlobal + Clone + Drop>(
+fn is_store_well_in<R: Files<File = File> + Print + AllocGlobal + Clone + Drop>(
     rt: &R,
     above: &str,
     folder: &str,
@@ -132,19 +165,22 @@ fn is_store_well<R: Files<File = File> + Print + AllocGlobal + Clone + Drop>(
     is_well(rt, &mut host, above, folder)
 }
 
+fn is_store_well<R: Files<File = File> + Print + AllocGlobal + Clone + Drop>(
+    rt: &R,
+    above: &str,
+) -> Result<bool, HostErr> {
+    let folder = format!(in rt.alloc(); "{}/aptly-store", above)?;
+    is_store_well_in(rt, above, folder.as_str())
+}
+
 #[test]
 fn a_file_is_laid_and_read_back(rt: HostRuntime) -> Result<(), Fail> {
-    let alloc = rt.alloc();
-    let above = format!(in alloc;
+    let above = format!(in rt.alloc();
         "{}/real_edge_{}",
         env::temp_dir(&rt)?.display(),
         process::id(rt.process())
     )?;
-    let folder = format!(in alloc; "{}/aptly-store", above.as_str())?;
-    assert_eq!(rt;
-        is_store_well(&rt, above.as_str(), folder.as_str()),
-        Ok(true)
-    );
+    assert_eq!(rt; is_store_well(&rt, above.as_str()), Ok(true));
     fs::remove_dir_all(&rt, above.as_str())?;
     Ok(())
 }
