@@ -1,12 +1,12 @@
 -- Why a call is refused: the commands say so, whatever host and inbox tell.
-use Rattle.std.proofs.Common.{◌≡◌, inl, inr, ℕ, ℤ, zero, suc, ◌<◌, List, [], ◌∷◌, length, Contains, slice_index_or, Option, Some, None, MatchOption, refl, sym, ◌∙◌, ap, subst, arith}
+use Rattle.std.proofs.Common.{◌≡◌, inl, inr, ℕ, ℤ, zero, suc, ◌<◌, List, [], ◌∷◌, ◌++◌, length, Contains, slice_index_or, Option, Some, None, MatchOption, refl, sym, ◌∙◌, ap, subst, arith}
 use Rattle.run_model.specs.Run.{Outcome, Runs, EndsAs}
 use Rattle.command_words.specs.Plain.{PlainCommand}
 use Rattle.query_eval.specs.Build.{IsNoPattern}
 use Rattle.machine_state.specs.declared.refusal.Refusal.{Refusal}
 use Rattle.machine_state.specs.declared.refusal.Refusal.TheVariants.{NotBuilt, BadPattern, PatternTooLarge}
 use Rattle.machine_state.specs.Values.{StateView}
-use Rattle.step_model.specs.Case.{Condition}
+use Rattle.step_model.specs.Refuses.{IsPatternRefusal}
 use Rattle.machine_step.specs.Causes.{IsUnbuilt}
 use Rattle.machine_step.specs.Step.{Given, case_of}
 use Rattle.machine_step.proofs.StepLaws.{cause, unbuilt}
@@ -17,14 +17,10 @@ use Rattle.aptly_core.specs.Causes.{AsksFor, HasCondition}
 use Rattle.aptly_core.specs.Machine.{machine, Steps}
 use Rattle.aptly_core.specs.Runs.{EndsWith, EndsFrom, IsEnd}
 
--- the condition that is told is one of the command
-has_condition : (now : ℤ) (s : StateView) (c : PlainCommand) (query test : ℕ) (condition : Condition) → Contains (case_of now s c).conditions condition → query ≡ condition.query → test ≡ condition.test → HasCondition query test condition.text c
-has_condition now s c query test condition has q t = (
-  now,
-  s,
-  subst (λ (n : ℕ). Contains (case_of now s c).conditions (record { query = n; test = test; text = condition.text })) (sym q)
-      (subst (λ (n : ℕ). Contains (case_of now s c).conditions (record { query = condition.query; test = n; text = condition.text })) (sym t) has),
-)
+-- the condition that is told is one of the command, and those before it are patterns
+has_condition : (now : ℤ) (large : Option (List ℕ)) (s : StateView) (c : PlainCommand) (query test : ℕ) (refusal : Refusal) (told : IsPatternRefusal large (case_of now s c).conditions refusal) → query ≡ told.condition.query → test ≡ told.condition.test → HasCondition query test told.condition.text c
+has_condition now large s c query test refusal told q t =
+    (now, s, told.before, told.behind, told.split ∙ (λ i. told.before ++ record { query = sym q i; test = sym t i; text = told.condition.text } ∷ told.behind), told.read)
 
 -- ---- lists of commands
 abbrev Found : Given → Option (List ℕ) → List PlainCommand → Refusal → Type 0
@@ -69,7 +65,7 @@ module _ (given : Given) (Told : Option (List ℕ) → Type 0) (words : List (Li
       elim (cause given w.2.0 last.0 last.1 last.2 (PatternTooLarge query test) last.4 last.5) [
         | inl own ↦ absurd own
         | inr (inl none) ↦ absurd (let no : PatternTooLarge query test ≡ NotBuilt = none.0 in cc)
-        | inr (inr is) ↦ (is.0.text, subst Told is.2.2 w.2.1, (cs, last.1, found, last.3, has_condition given.now last.0 last.1 query test is.0 is.1 is.2.0 is.2.1))
+        | inr (inr is) ↦ (is.condition.text, subst Told is.told.2 w.2.1, (cs, last.1, found, last.3, has_condition given.now w.2.0 last.0 last.1 query test (PatternTooLarge query test) is is.told.0 is.told.1))
       ]
 
   pub no_pattern : (query test : ℕ) → EndsFrom given Told cs (statuses.Refused (BadPattern query test)) → (text : List ℕ) × IsNoPattern text × AsksFor words (HasCondition query test text)
@@ -78,7 +74,7 @@ module _ (given : Given) (Told : Option (List ℕ) → Type 0) (words : List (Li
       elim (cause given w.2.0 last.0 last.1 last.2 (BadPattern query test) last.4 last.5) [
         | inl own ↦ absurd own
         | inr (inl none) ↦ absurd (let no : BadPattern query test ≡ NotBuilt = none.0 in cc)
-        | inr (inr is) ↦ (is.0.text, is.2.2, (cs, last.1, found, last.3, has_condition given.now last.0 last.1 query test is.0 is.1 is.2.0 is.2.1))
+        | inr (inr is) ↦ (is.condition.text, is.told.2, (cs, last.1, found, last.3, has_condition given.now w.2.0 last.0 last.1 query test (BadPattern query test) is is.told.0 is.told.1))
       ]
 
   pub not_built : EndsFrom given Told cs (statuses.Refused NotBuilt) → AsksFor words IsUnbuilt
@@ -87,7 +83,7 @@ module _ (given : Given) (Told : Option (List ℕ) → Type 0) (words : List (Li
       elim (cause given w.2.0 last.0 last.1 last.2 NotBuilt last.4 last.5) [
         | inl own ↦ absurd own
         | inr (inl none) ↦ (cs, last.1, found, last.3, none.1)
-        | inr (inr is) ↦ absurd is.2
+        | inr (inr is) ↦ absurd is.told
       ]
 
   -- a call that is done asked for nothing that isn't built

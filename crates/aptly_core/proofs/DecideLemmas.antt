@@ -30,7 +30,8 @@ use Rattle.step_model.specs.Lawful.{list_in}
 use Rattle.step_model.specs.Refuses.{Refuses}
 use Rattle.machine_step.specs.declared.outcome.Outcome.{Outcome as Made}
 use Rattle.machine_step.specs.Answers.{seen}
-use Rattle.machine_step.specs.Step.{Given, IsReadable, MayArrive, Step, StepWith, case_of, read_for}
+use Rattle.step_model.specs.Refuses.{IsReadable}
+use Rattle.machine_step.specs.Step.{Given, MayArrive, Step, StepWith, case_of, read_for}
 use Rattle.machine_step.proofs.StepLaws.{knows, readable, refuses}
 use Rattle.aptly_core.specs.declared.fault.RunFault.{RunFault}
 use Rattle.aptly_core.specs.Arrives.{Arrives, Decides, arrived_of}
@@ -128,7 +129,7 @@ folder_may given large s reading name folder r is short h = subst (λ (x : Readi
 -- ---- what a new state knows was known, or arrived
 known_all : (P : Card → Type 0) (now : ℤ) (large : Option (List ℕ)) (s : StateView) (c : PlainCommand) (arrived : Arrived) (o : Outcome StateView Refusal) → StepWith now large s c arrived o → All P s.known → All P (list_in arrived) → All P o.state.known
 known_all P now large s c arrived o step old new k d lt =
-    elim (knows now large s c arrived o step k d lt) [
+    elim ((knows now large s c arrived o step).0 k d lt) [
       | inl had ↦ All-contains P s.known (slice_index_or o.state.known k d) old had
       | inr came ↦ All-contains P (list_in arrived) (slice_index_or o.state.known k d) new came
     ]
@@ -155,7 +156,7 @@ decides_so reading given s c before now arrived out step l ops w = record {
   nothing = λ fits none. w.nothing (reads_nothing given.now s c reading fits none);
   step = w.step;
   apart = w.apart;
-  bodies = λ fits stored apart. let went = step fits stored.valid in go out.state (known_all (HasBody (live_of (extended ops l))) given.now went.0 s c arrived (seen s out) went.1 (stays_all l ops s.known w.grows stored.bodies) (w.bodies stored apart));
+  bodies = λ fits stored apart. let went = step fits stored.held.valid in go out.state (known_all (HasBody (live_of (extended ops l))) given.now went.0 s c arrived (seen s out) went.1 (stays_all l ops s.known w.grows stored.bodies) (w.bodies stored apart));
 }
   where
     go : (n : Option StateView) → All (HasBody (live_of (extended ops l))) (unwrap_or n s).known → IfSome n (λ t. All (HasBody (live_of (extended ops l))) t.known)

@@ -31,5 +31,5 @@ lawful given = record {
   plain = plain given;
   keeps = keeps given;
   total = λ k s c valid. laws.total given k s c;
-  valid = λ f s stands. stands.valid;
+  valid = λ f s stands. stands.held.valid;
 }

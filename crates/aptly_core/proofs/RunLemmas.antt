@@ -39,8 +39,9 @@ use Rattle.aptly_core.proofs.GrowLemmas.{taking_work, taking_idle, taking_sets, 
 use Rattle.aptly_core.proofs.Lawful.{lawful, keeps}
 use Rattle.aptly_core.specs.Apart.{BodiesApart}
 use Rattle.catalogue_root.specs.Commits.{IsTarget, IsCommitting, MayCommit, Saves, Sets}
-use Rattle.catalogue_root.specs.Store.{root, store}
-use Rattle.catalogue_root.proofs.CommitLemmas.{rest_valid, committing_targets}
+use Rattle.machine_step.proofs.StepLaws.{knows}
+use Rattle.catalogue_root.specs.Store.{IsHeld, root, store}
+use Rattle.catalogue_root.proofs.CommitLemmas.{rest_held, rest_valid, committing_targets}
 use Rattle.catalogue_root.proofs.FitLemmas.{open_stored, bodies_of}
 use Rattle.catalogue_root.proofs.GrowLemmas.{taking_each, grown_rest, grown_to, here}
 use Rattle.catalogue_root.proofs.SaveLemmas.{saving_commits, saving_nothing}
@@ -206,7 +207,7 @@ module _ (given : Given) (k : Option (List ℕ)) (l : Log) (s : StateView) (c : 
         targets = subst (AreTargets l) (sym all) (targets_all l p (targets (a ++ b)) taken are);
         refused = λ some. EachOp-append (IsIdle l) (p ++ a) b (EachOp-append (IsIdle l) p a (taking_idle l p taken.kinds) (subst (EachOp (IsIdle l)) (sym (saving_nothing new (extended p l) a (kept some) saves.only)) tt)) (words_each (IsIdle l) (λ x. tt) b words);
         unchanged = λ same. EachOp-append (λ op. ¬ Sets op) (p ++ a) b (EachOp-append (λ op. ¬ Sets op) p a (taking_sets l p taken.kinds) (calm new refl same)) (words_each (λ op. ¬ Sets op) (λ x no. no) b words);
-        quiet = λ none same. subst (SaysAtMost o.reply) (sym (ap (λ (x : List Op). (x ++ a) ++ b) (nothing none) ∙ ap (λ (x : List Op). x ++ b) (still new refl same))) most;
+        quiet = λ none same either. subst (SaysAtMost o.reply) (sym (ap (λ (x : List Op). (x ++ a) ++ b) (nothing none) ∙ ap (λ (x : List Op). x ++ b) (still new refl same))) most;
         removes = λ no. EachOp-append (λ op. ¬ IsRemoval op) (p ++ a) b (EachOp-append (λ op. ¬ IsRemoval op) p a (none_removed l p taken) (committing_removes (extended p l) a only)) (words_each (λ op. ¬ IsRemoval op) (λ x no. no) b words);
       }
     where
@@ -240,13 +241,20 @@ module _ (given : Given) (k : Option (List ℕ)) (l : Log) (s : StateView) (c : 
 abbrev pub made : StateView → Made → Outcome StateView Refusal
 made s out = record { reply = out.reply; refusal = out.refusal; state = unwrap_or out.state s }
 
+-- what a command comes to from a state that a store holds, a store may hold too
+pub next_held : (given : Given) (l : Log) (s : StateView) (c : PlainCommand) (k : Option (List ℕ)) (o : Outcome StateView Refusal) → AtRest store s l → Steps given k s c o → IsHeld o.state
+next_held given l s c k o rest step = record {
+  valid = keeps given k s c o (rest_valid s l rest) step;
+  published = (knows given.now k s c step.0 o step.2).1 (rest_held s l rest).published;
+}
+
 -- where the new state may be committed
-module _ (given : Given) (l : Log) (s : StateView) (c : PlainCommand) (before mid : StageState) (out : Made) (p : List Op) (decides : Decides (Valid s) given s c before mid (Ok out) l p) (may : MayRun given s before l) (next : Valid (unwrap_or out.state s)) where
+module _ (given : Given) (l : Log) (s : StateView) (c : PlainCommand) (before mid : StageState) (out : Made) (p : List Op) (decides : Decides (Valid s) given s c before mid (Ok out) l p) (may : MayRun given s before l) (next : IsHeld (unwrap_or out.state s)) where
   pub ready : MayCommit s (unwrap_or out.state s) mid (extended p l)
   ready = record {
     rest = grown_rest s l p decides.grows may.rest;
     step = decides.step may.step;
-    next = record { valid = next; bodies = go out.state refl (decides.bodies (rest_valid s l may.rest) (open_stored (live_of l) s (here s l p decides.grows may.rest)) may.apart) };
+    next = record { held = next; bodies = go out.state refl (decides.bodies (rest_valid s l may.rest) (open_stored (live_of l) s (here s l p decides.grows may.rest)) may.apart) };
   }
     where
       go : (n : Option StateView) → out.state ≡ n → IfSome out.state (λ t. All (HasBody (live_of (extended p l))) t.known) → All (HasBody (live_of (extended p l))) (unwrap_or out.state s).known
@@ -322,8 +330,8 @@ runs_ok given Told s c before mid now out v r ok comes kept fresh l ops b x told
     valid : MayRun given s before l → Valid s
     valid may = rest_valid s l may.rest
 
-    next : MayRun given s before l → Valid (unwrap_or out.state s)
-    next may = let step = comes (valid may) in keeps given step.0 s c (made s out) (valid may) step.2
+    next : MayRun given s before l → IsHeld (unwrap_or out.state s)
+    next may = let step = comes (valid may) in next_held given l s c step.0 (made s out) may.rest step.2
 
     done : (may : MayRun given s before l) (k : Option (List ℕ)) → Steps given k s c (made s out) → Ran (machine given) k l s (c ∷ []) (Some (unwrap_or out.state s, out.refusal)) ((p ++ a) ++ b)
     done may k step = say_done given k l s c (made s out) step out.state refl kept (fresh (valid may)) p d.grows (d.nothing (valid may)) mid now r a w (all_grows given l s c before mid out p d may (next may) now r a w) b (all_rests given l s c before mid out p d may (next may) now r a w v ok) told

@@ -1,7 +1,9 @@
 -- Why a call of commands is refused, whatever its host and its inbox tell.
-use Rattle.std.specs.Prelude.{◌≡◌, ℕ, ℤ, List, Contains, Some}
+use Rattle.std.specs.Prelude.{◌≡◌, ◌∷◌, ◌++◌, ℕ, ℤ, List, Contains, Some}
 use Rattle.command_words.specs.Plain.{PlainCommand}
 use Rattle.machine_state.specs.Values.{StateView}
+use Rattle.step_model.specs.Case.{Condition}
+use Rattle.step_model.specs.Refuses.{ArePatterns}
 use Rattle.machine_step.specs.Step.{case_of}
 use Rattle.aptly_core.specs.Calls.{asked}
 
@@ -9,7 +11,9 @@ use Rattle.aptly_core.specs.Calls.{asked}
 abbrev pub AsksFor : List (List ℕ) → (PlainCommand → Type 0) → Type 0
 AsksFor words P = (commands : List PlainCommand) × (command : PlainCommand) × (asked words ≡ Some commands) × Contains commands command × P command
 
--- At some moment, in some state, the `~` condition of this number in the command's query of this number has this text. Both are counted
--- from 1.
+-- At some moment, in some state, the `~` condition of this number in the command's query of this number has this text, and each of its
+-- conditions before it is a pattern. Both numbers are counted from 1.
 abbrev pub HasCondition : ℕ → ℕ → List ℕ → PlainCommand → Type 0
-HasCondition query test text command = (now : ℤ) × (state : StateView) × Contains (case_of now state command).conditions (record { query = query; test = test; text = text })
+HasCondition query test text command =
+    (now : ℤ) × (state : StateView) × (before : List Condition) × (behind : List Condition)
+    × ((case_of now state command).conditions ≡ before ++ record { query = query; test = test; text = text } ∷ behind) × ArePatterns before

@@ -77,8 +77,9 @@ pub record Moves (given : Given) (l : Log) (state : Place) (command : PlainComma
   pub refused : IfSome outcome (λ o. IsSome o.refusal → EachOp (IsIdle l) ops)
   -- what leaves the state as it was sets no root
   pub unchanged : IfSome outcome (λ o. o.state ≡ state → EachOp (λ op. ¬ Sets op) ops)
-  -- a command that reads nothing and leaves the state as it was says its reply, and does nothing else
-  pub quiet : read_for given.now state command ≡ readings.Nothing → MatchOption outcome (ops ≡ []) (λ o. o.state ≡ state → SaysAtMost o.reply ops)
+  -- a command that reads nothing and leaves the state as it was says its reply, and does nothing else, unless it is done and is to remove
+  -- files
+  pub quiet : read_for given.now state command ≡ readings.Nothing → MatchOption outcome (ops ≡ []) (λ o. o.state ≡ state → ((is_to_remove command ≡ false) ⊎ IsSome o.refusal) → SaysAtMost o.reply ops)
   -- only a command that is to remove files removes any
   pub removes : is_to_remove command ≡ false → EachOp (λ op. ¬ IsRemoval op) ops
 

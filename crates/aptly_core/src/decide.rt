@@ -6,7 +6,8 @@ ghost use Rattle.command_words.specs.Plain.{plain};
 ghost use Rattle.machine_state.specs.State.{Valid};
 ghost use Rattle.step_model.specs.Answers.{IsNew, Told};
 ghost use Rattle.machine_step.specs.Answers.{seen};
-ghost use Rattle.machine_step.specs.Step.{IsReadable, MayArrive, Step, giving, read_for};
+ghost use Rattle.step_model.specs.Refuses.{IsReadable};
+ghost use Rattle.machine_step.specs.Step.{MayArrive, Step, giving, read_for};
 ghost use Rattle.aptly_core.specs.declared.fault.RunFault.TheVariants.{HostFault, InboxFault};
 ghost use Rattle.aptly_core.specs.Arrives.{Arrives, Decides, arrived_of};
 

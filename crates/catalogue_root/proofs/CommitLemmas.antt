@@ -1,16 +1,16 @@
 -- What a stop within a commit may leave.
-use Rattle.std.proofs.Common.{◌≡◌, ◌==◌, ◌≢◌, ◌⊎◌, ◌≤◌, length, All, inl, inr, ℕ, Bool, true, false, List, [], ◌∷◌, ◌++◌, Some, None, IsTrue, MatchBool, Result, Ok, Err, OnOk, refl, sym, ◌∙◌, ap, subst}
+use Rattle.std.proofs.Common.{◌≡◌, ◌==◌, ◌≢◌, ◌⊎◌, ◌≤◌, length, All, inl, inr, ℕ, Bool, true, false, List, [], ◌∷◌, ◌++◌, Some, None, MatchBool, Result, Ok, Err, OnOk, refl, sym, ◌∙◌, ap, subst}
 use Rattle.std.specs.List.{AllByRecursion}
 use Rattle.ap_host.specs.declared.host.Op.{Op}
 use Rattle.ap_host.specs.declared.host.Op.TheVariants.{Create, Append, Sync, Rename, Remove, Barrier, Say, Claim}
 use Rattle.ap_host.specs.declared.host.HostErr.{HostErr}
-use Rattle.ap_host.specs.Disk.{Path, Content, Files, with_file, moved, Log, Disk, disk_of, extended, live_of, Images, said, Durable, Throughout}
+use Rattle.ap_host.specs.Disk.{Path, Content, with_file, moved, Log, Disk, disk_of, extended, live_of, Images, said, Durable, Throughout}
 use Rattle.ap_host.specs.Calls.{Did}
 use Rattle.ap_host.specs.Changes.{EachOp, TouchesOnly, SameExcept}
 use Rattle.ap_host.proofs.DiskLemmas.{disk_of-step, with_file-same, Throughout-map, Throughout-none, Throughout-end, extended-append}
 use Rattle.ap_host.proofs.ChangeLemmas.{EachOp-map, after_same, same_after, IsPart, AllOrPart, part_moments, part_each, part_touches, did_part}
 use Rattle.ap_host.proofs.LegalLemmas.{law_of_live_image, image_at, durable_image}
-use Rattle.stage_file.specs.Stage.{StageState, stage_path, is_staged, IsInStep, LaysAt, IsLaid, Lays, Places, Barriers}
+use Rattle.stage_file.specs.Stage.{StageState, stage_path, IsInStep, LaysAt, IsLaid, Lays, Places, Barriers}
 use Rattle.stage_file.proofs.StageLemmas.{live_step_of}
 use Rattle.run_model.specs.Run.{Between, Grows, AtRest}
 use Rattle.run_model.proofs.Growing.{onward_part, onward_nothing, onward_same, grows_then}
@@ -21,8 +21,8 @@ use Rattle.hash_pool.specs.Bodies.{HasBody}
 use Rattle.hash_pool.specs.Growth.{targets, IsOnce}
 use Rattle.hash_pool.proofs.GrowthLemmas.{targets-append}
 use Rattle.catalogue_root.specs.Commits.{IsTarget, IsCommitting, MaySet, SetsRoot}
-use Rattle.catalogue_root.specs.Store.{root, IsRootOf, Fits, Open, store}
-use Rattle.catalogue_root.proofs.FitLemmas.{clash, Staged, Free, staged_free, root_free, by_free, root_not_staged, free_fits, next_fits, bodies_of, fits_serve, open_serves, open_with, open_along, open_same}
+use Rattle.catalogue_root.specs.Store.{IsHeld, root, IsRootOf, Fits, Open, store}
+use Rattle.catalogue_root.proofs.FitLemmas.{clash, Staged, Free, staged_free, root_free, by_free, root_not_staged, free_fits, next_fits, fits_serve, open_with, open_along, open_same}
 
 pub staged_path : (n : ℕ) → Staged (stage_path n)
 staged_path n = refl
@@ -134,10 +134,13 @@ rest_holds s t l rest bodies = (
 pub set_holds : (s t : StateView) (l : Log) → MaySet s t l → HoldsOne s t l
 set_holds s t l may = rest_holds s t l may.rest may.bodies
 
-pub rest_valid : (s : StateView) (l : Log) → AtRest store s l → Valid s
-rest_valid s l rest = (rest (live_of l) (law_of_live_image l)).valid
+pub rest_held : (s : StateView) (l : Log) → AtRest store s l → IsHeld s
+rest_held s l rest = (rest (live_of l) (law_of_live_image l)).held
 
-module _ (s t : StateView) (old : Valid s) (new : Valid t) where
+pub rest_valid : (s : StateView) (l : Log) → AtRest store s l → Valid s
+rest_valid s l rest = (rest_held s l rest).valid
+
+module _ (s t : StateView) (old : IsHeld s) (new : IsHeld t) where
   abbrev pub IsNew : Log → Type 0
   IsNew m = Open (live_of m) t
 
@@ -146,8 +149,8 @@ module _ (s t : StateView) (old : Valid s) (new : Valid t) where
       let fits = λ (q : Path). h.1 q (f q) (image q) in
       let serves = λ (q : Path). fits_serve s s t q (f q) (fits q).0 in
       elim (h.0 (f root) (image root)) [
-        | inl e ↦ (inl (record { valid = old; root = e; fits = λ q. (fits q).0 }), serves)
-        | inr e ↦ (inr (record { valid = new; root = e; fits = λ q. (fits q).1 }), serves)
+        | inl e ↦ (inl (record { held = old; root = e; fits = λ q. (fits q).0 }), serves)
+        | inr e ↦ (inr (record { held = new; root = e; fits = λ q. (fits q).1 }), serves)
       ]
 
   pub phase : (l : Log) (ops : List Op) → said ops ≡ [] → Throughout (Holds s t) l ops
@@ -225,7 +228,7 @@ module _ (s t : StateView) (old : Valid s) (new : Valid t) where
       same o is q = ap (λ (p : Op). live_of (extended (p ∷ []) l) q) is ∙ live_step_of l Barrier q
 
 pub set_nothing : (s t : StateView) (l : Log) → MaySet s t l → Grows store s t l []
-set_nothing s t l may = let h = set_holds s t l may in nothing_phase s t (rest_valid s l may.rest) may.valid l [] (λ x is. inl (h.0 x is), h.1) refl
+set_nothing s t l may = let h = set_holds s t l may in nothing_phase s t (rest_held s l may.rest) may.held l [] (λ x is. inl (h.0 x is), h.1) refl
 
 -- the text of a state was laid
 abbrev pub LaidSo : ℕ → StateView → StateView → Log → List Op → Type 0
@@ -235,7 +238,7 @@ pub laid_so : {T : Type 0} (n : ℕ) (s t : StateView) (v : T) (l : Log) (a : Li
 laid_so n s t v l a lays may =
     let same = same_after Staged l a (lays_staged n a lays.only) in
     let holds = set_holds s t l may in (
-      lay_phase s t (rest_valid s l may.rest) may.valid n l a holds lays.only,
+      lay_phase s t (rest_held s l may.rest) may.held n l a holds lays.only,
       lays.laid,
       (λ x h. holds.0 x (same.may root x root_not_staged h), other_along s t l (extended a l) (λ q x not h. same.may q x (not_staged q not) h) holds.1),
     )
@@ -248,15 +251,15 @@ pub setting : {T : Type 0} (n : ℕ) (s t : StateView) (r : Result T HostErr) (l
     → MaySet s t l → Grows store s t l (a ++ b)
 setting n s t r l a b laid places may =
     let w = laid may in
-    grows_then store s t l a b w.0 (place_phase s t (rest_valid s l may.rest) may.valid n (extended a l) b r w.1 w.2 places)
+    grows_then store s t l a b w.0 (place_phase s t (rest_held s l may.rest) may.held n (extended a l) b r w.1 w.2 places)
 
 pub set_so : {T : Type 0} (n : ℕ) (s t : StateView) (v : T) (l : Log) (a b : List Op) → LaidSo n s t l a → Places {T = T} (stage_path n) root (Ok v) (extended a l) b → SetSo s t l (a ++ b)
 set_so n s t v l a b laid places may =
     let w = laid may in
-    let valid = may.valid in
-    let old = rest_valid s l may.rest in (
+    let held = may.held in
+    let old = rest_held s l may.rest in (
       setting n s t (Ok v) l a b laid places may,
-      subst (λ (x : Log). Holds s t x) (extended-append a b l) (place_at s t old valid n (extended a l) b (Ok v) w.1 w.2 places),
+      subst (λ (x : Log). Holds s t x) (extended-append a b l) (place_at s t old held n (extended a l) b (Ok v) w.1 w.2 places),
       ap (λ (x : Log). live_of x root) (sym (extended-append a b l)) ∙ places.placed ∙ w.1.live,
     )
 
@@ -278,7 +281,7 @@ module _ {T : Type 0} (s t : StateView) (st : StageState) (r : Result T HostErr)
   pub committed : SetSo s t l a → MaySet s t l → Grows store s t l (a ++ b)
   committed set may =
       let w = set may in
-      grows_then store s t l a b w.0 (barrier_phase s t (rest_valid s l may.rest) may.valid (extended a l) b r w.1 made)
+      grows_then store s t l a b w.0 (barrier_phase s t (rest_held s l may.rest) may.held (extended a l) b r w.1 made)
 
   pub committed_rest : SetSo s t l a → MaySet s t l → OnOk r (AtRest store t (extended (a ++ b) l))
   committed_rest set may = go r made barriers.durable
@@ -289,7 +292,7 @@ module _ {T : Type 0} (s t : StateView) (st : StageState) (r : Result T HostErr)
           let same = durable_image (extended b (extended a l)) (sure in_step) f image in
           let live = λ (q : Path). ap (λ (o : List Op). live_of (extended o (extended a l)) q) d ∙ live_step_of (extended a l) Barrier q in
           record {
-            valid = may.valid;
+            held = may.held;
             root = inl (same root ∙ live root ∙ w.2);
             fits = λ q. subst (Fits t q) (sym (same q ∙ live q)) (w.1.1 q (live_of (extended a l) q) (law_of_live_image (extended a l) q)).1;
           })

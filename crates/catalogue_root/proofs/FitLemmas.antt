@@ -12,9 +12,8 @@ use Rattle.hash_pool.specs.Bodies.{IsBodyOf, HasBody}
 use Rattle.hash_pool.specs.Growth.{IsBody}
 use Rattle.hash_pool.specs.Names.{is_pooled, pool_name}
 use Rattle.hash_pool.proofs.NameLemmas.{name_pooled, pooled_not_staged, not_both}
-use Rattle.machine_state.specs.State.{Valid}
 use Rattle.machine_state.specs.Values.{StateView}
-use Rattle.catalogue_root.specs.Store.{root, IsRootOf, Fits, Open, Stored, Serves}
+use Rattle.catalogue_root.specs.Store.{IsHeld, root, IsRootOf, Fits, Open, Stored, Serves}
 
 pub clash : {A : Type 0} → false ≡ true → A
 clash h = absurd (cc)
@@ -148,12 +147,12 @@ fits_serve s t u q x fits = fits.public
 
 -- ---- files that stand for a state
 pub open_stored : (f : Files) (s : StateView) → Open f s → Stored f s
-open_stored f s o = record { valid = o.valid; root = o.root; bodies = bodies_of s f o.fits; named = λ p bytes is e. (o.fits p).named is bytes e }
+open_stored f s o = record { held = o.held; root = o.root; bodies = bodies_of s f o.fits; named = λ p bytes is e. (o.fits p).named is bytes e }
 
 -- and the other way, where clients find what they are promised
 pub stored_open : (f : Files) (s : StateView) → Stored f s → ((q : Path) → Serves s s q (f q)) → Open f s
 stored_open f s o serves = record {
-  valid = o.valid;
+  held = o.held;
   root = o.root;
   fits = λ q. record {
     bodies = λ k d lt e. subst (λ (p : Path). IsBodyOf (item s.known k d) (f p)) (sym e) (o.bodies k d lt);
@@ -166,15 +165,15 @@ pub open_serves : (f : Files) (s t u : StateView) → Open f s → (q : Path) �
 open_serves f s t u o q = fits_serve s t u q (f q) (o.fits q)
 
 -- other files with this root, and the same elsewhere
-pub open_with : (t : StateView) (f g : Files) → Valid t → IsRootOf (g root) t → ((q : Path) → ¬ Free q → g q ≡ f q) → ((q : Path) → Fits t q (f q)) → Open g t
-open_with t f g valid at same fits = record {
-  valid = valid;
+pub open_with : (t : StateView) (f g : Files) → IsHeld t → IsRootOf (g root) t → ((q : Path) → ¬ Free q → g q ≡ f q) → ((q : Path) → Fits t q (f q)) → Open g t
+open_with t f g held at same fits = record {
+  held = held;
   root = at;
   fits = λ q. by_free (Fits t q (g q)) q (free_fits t q (g q)) (λ not. subst (Fits t q) (sym (same q not)) (fits q));
 }
 
 pub open_along : (t : StateView) (f g : Files) → g root ≡ f root → ((q : Path) → ¬ Free q → g q ≡ f q) → Open f t → Open g t
-open_along t f g at same o = open_with t f g o.valid (subst (λ (x : Content). IsRootOf x t) (sym at) o.root) same o.fits
+open_along t f g at same o = open_with t f g o.held (subst (λ (x : Content). IsRootOf x t) (sym at) o.root) same o.fits
 
 pub open_same : (t : StateView) (f g : Files) → ((q : Path) → g q ≡ f q) → Open f t → Open g t
 open_same t f g same o = open_along t f g (same root) (λ q not. same q) o

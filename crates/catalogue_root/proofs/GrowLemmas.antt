@@ -1,8 +1,8 @@
 -- Files are taken into the pool: the store stands for its state on.
-use Rattle.std.proofs.Common.{◌≡◌, ◌⊎◌, inl, inr, ℕ, Bool, true, false, List, [], ◌∷◌, ◌++◌, Some, None, IsTrue, IsFalse, refl, sym, ◌∙◌, ap, subst}
+use Rattle.std.proofs.Common.{◌≡◌, ◌⊎◌, inl, inr, ℕ, Bool, true, false, List, ◌++◌, Some, None, IsTrue, IsFalse, refl, sym, ◌∙◌, subst}
 use Rattle.ap_host.specs.declared.host.Op.{Op}
 use Rattle.ap_host.specs.declared.host.Op.TheVariants.{Create, Append, Sync, Rename, Remove, Barrier, Say, Claim}
-use Rattle.ap_host.specs.Disk.{Path, Content, Log, disk_of, extended, live_of, Images, said, Throughout}
+use Rattle.ap_host.specs.Disk.{Path, Content, Log, disk_of, extended, live_of, Images, Throughout}
 use Rattle.ap_host.specs.Changes.{EachOp, TouchesOnly, SameExcept}
 use Rattle.ap_host.proofs.DiskLemmas.{Throughout-end}
 use Rattle.ap_host.proofs.ChangeLemmas.{EachOp-map, after_same}
@@ -11,7 +11,6 @@ use Rattle.run_model.specs.Run.{Grows, AtRest}
 use Rattle.stage_file.specs.Stage.{is_staged}
 use Rattle.hash_pool.specs.Names.{is_pooled}
 use Rattle.hash_pool.specs.Growth.{IsTaking, PoolGrows, HasGrown}
-use Rattle.hash_pool.proofs.NameLemmas.{not_both}
 use Rattle.hash_pool.proofs.GrowthLemmas.{law_of_growth}
 use Rattle.machine_state.specs.Values.{StateView}
 use Rattle.catalogue_root.specs.Store.{root, IsRootOf, Fits, Open, store}
@@ -48,7 +47,7 @@ not_free q not = go (is_staged q) refl
 -- what stands for some state goes on to stand for it
 pub open_on : (t : StateView) (m n : Log) → HasGrown m n → Open (live_of m) t → Open (live_of n) t
 open_on t m n grown o = record {
-  valid = o.valid;
+  held = o.held;
   root = subst (λ (x : Content). IsRootOf x t) (sym (law_of_growth.elsewhere m n root grown refl refl)) o.root;
   fits = λ q. by_free (Fits t q (live_of n q)) q (free_fits t q (live_of n q)) (λ not. elim (grown.live q (not_free q not)) [
     | inl same ↦ subst (Fits t q) (sym same) (o.fits q)
@@ -89,7 +88,7 @@ module _ (s : StateView) (l : Log) (a : List Op) (grows : PoolGrows l a) (rest :
 
   opens : (m : Log) → SameExcept (Taken l) l m → HasGrown l m → Images m (λ f. Open f s)
   opens m e g f image = record {
-    valid = here.valid;
+    held = here.held;
     root = let w = image_at l root (f root) (e.may root (f root) root_not (image root)) in subst (λ (x : Content). IsRootOf x s) w.2 (rest w.0 w.1).root;
     fits = λ q. by_free (Fits s q (f q)) q (free_fits s q (f q)) (fits m e g q (f q) (image q));
   }

@@ -10,15 +10,15 @@ use Rattle.machine_state.specs.State.{Valid, empty}
 use Rattle.machine_state.specs.Values.{StateView}
 use Rattle.machine_state.proofs.ValidLemmas.{valid_plain}
 use Rattle.catalogue_text.specs.Root.{root_text}
-use Rattle.catalogue_text.specs.Faults.{TextsApart, IsFirstBadLine}
+use Rattle.catalogue_text.specs.Faults.{TextsApart}
 use Rattle.catalogue_text.proofs.RootTexts.{one_state}
 use Rattle.catalogue_root.specs.declared.damage.LoadFault.{LoadFault}
 use Rattle.catalogue_root.specs.declared.damage.LoadFault.TheVariants.{Damaged, HostFault, OutOfMemory}
 use Rattle.catalogue_root.specs.declared.damage.Damage.{Damage}
 use Rattle.catalogue_root.specs.declared.damage.Damage.TheVariants.{Missing, Size, Digest, Unreadable}
 use Rattle.catalogue_root.specs.Laws.{LawOfOpenStores}
-use Rattle.catalogue_root.specs.Loads.{RootApart, IsFirstAmiss, IsListed, IsWrong, IsDamage, MayLoad, IsLoadOf, IsLookedFor, AreLookedFor}
-use Rattle.catalogue_root.specs.Store.{root, IsRootOf, Open, Stored, Sound, SoundForNone, HasFile}
+use Rattle.catalogue_root.specs.Loads.{IsUnreadable, RootApart, IsFirstAmiss, IsListed, IsWrong, IsDamage, MayLoad, IsLoadOf, IsLookedFor, AreLookedFor}
+use Rattle.catalogue_root.specs.Store.{IsHeld, root, IsRootOf, Open, Stored, Sound, SoundForNone, HasFile}
 use Rattle.catalogue_root.proofs.FitLemmas.{open_stored, stored_open}
 
 -- a file's length
@@ -47,7 +47,7 @@ module _ (files : Files) (p : Card) (field : Option ℕ) (told : field ≡ optio
 -- a store that is whole is sound
 pub stored_sound : (f : Files) (s : StateView) → Stored f s → Sound f s
 stored_sound f s o = record {
-  valid = o.valid;
+  held = o.held;
   root = o.root;
   there = λ k d lt. let b = o.bodies k d lt in record { bytes = b.bytes; file = b.file; size = ap (λ said. said.size) b.said };
 }
@@ -64,7 +64,7 @@ root_once f s t apart a b x y = go x y
 
 -- so files are sound for one state at most
 pub sound_once : (f : Files) (s t : StateView) → RootApart f → Sound f s → Sound f t → s ≡ t
-sound_once f s t apart a b = root_once f s t apart a.valid b.valid a.root b.root
+sound_once f s t apart a b = root_once f s t apart a.held.valid b.held.valid a.root b.root
 
 pub stored_once : (f : Files) (s t : StateView) → RootApart f → Stored f s → Stored f t → s ≡ t
 stored_once f s t apart a b = sound_once f s t apart (stored_sound f s a) (stored_sound f t b)
@@ -135,10 +135,13 @@ no_item P k d lt = absurd (omega (arith, lt))
 pub empty_valid : Valid empty
 empty_valid = valid_plain [] [] [] (record { packages = no_item _; sorted = tt; few = omega arith; files = no_item _; texts = omega arith }) (record { each = no_item _; lists = no_item _; sorted = tt; few = omega arith }) (record { each = no_item _; lists = no_item _; sorted = tt; few = omega arith })
 
+empty_held : IsHeld empty
+empty_held = record { valid = empty_valid; published = refl }
+
 -- a store with no file stands for the empty state
 pub empty_open : Open (λ (path : Path). None) empty
 empty_open = stored_open (λ path. None) empty
-    (record { valid = empty_valid; root = inr (refl, refl); bodies = no_item _; named = λ p bytes is e. absurd (cc) })
+    (record { held = empty_held; root = inr (refl, refl); bodies = no_item _; named = λ p bytes is e. absurd (cc) })
     (λ q is. refl)
 
 pub law_of_open : LawOfOpenStores
@@ -146,20 +149,27 @@ law_of_open = record { stored = open_stored; sound = stored_sound; nothing = emp
 
 -- ---- a root and the files
 pub loads_none : (f : Files) (r : Result StateView LoadFault) → f root ≡ None → r ≡ Ok empty → MayLoad f r
-loads_none f r none is = subst (MayLoad f) (sym is) (record { valid = empty_valid; root = inr (none, refl); there = λ k d lt. absurd (omega (arith, lt)) })
+loads_none f r none is = subst (MayLoad f) (sym is) (record { held = empty_held; root = inr (none, refl); there = λ k d lt. absurd (omega (arith, lt)) })
 
 -- a text that is no root
 pub loads_fault : (f : Files) (text : List ℕ) (fault : LoadFault) (r : Result StateView LoadFault) → f root ≡ Some text → r ≡ Err fault → IsLoadOf text (Err fault) → MayLoad f r
 loads_fault f text fault r there is w = subst (MayLoad f) (sym is) (go fault w)
   where
-    bad : (path : Path) (line : ℕ) → path ≡ root → (TextsApart text → IsFirstBadLine text line) → RootApart f → SoundForNone f × IsDamage f (Unreadable path line)
+    -- no state without a publication has this text as its root
+    no_root : (line : ℕ) → IsUnreadable text line → TextsApart text → (s : StateView) → IsHeld s → text ≡ root_text s → ⊥
+    no_root line (inl first) apart s held e = first.none s held.valid e
+    no_root line (inr has) apart s held e =
+        let one : has.state ≡ s = one_state has.state s (subst TextsApart has.is apart) has.valid held.valid (sym has.is ∙ e) in
+        has.some (ap (λ (x : StateView). x.publications) one ∙ held.published)
+
+    bad : (path : Path) (line : ℕ) → path ≡ root → (TextsApart text → IsUnreadable text line) → RootApart f → SoundForNone f × IsDamage f (Unreadable path line)
     bad path line at w apart =
-        let first = w (apart text there) in (
+        let line_is = w (apart text there) in (
           (λ s sound. elim sound.root [
-            | inl e ↦ first.none s sound.valid (let same : Some text ≡ Some (root_text s) = sym there ∙ e in cc)
+            | inl e ↦ no_root line line_is (apart text there) s sound.held (let same : Some text ≡ Some (root_text s) = sym there ∙ e in cc)
             | inr e ↦ let no : Some text ≡ None = sym there ∙ e.0 in cc
           ]),
-          (at, text, there, first),
+          (at, text, there, line_is),
         )
 
     go : (fault : LoadFault) → IsLoadOf text (Err fault) → MayLoad f (Err fault)
@@ -171,21 +181,21 @@ loads_fault f text fault r there is w = subst (MayLoad f) (sym is) (go fault w)
     go OutOfMemory w = tt
 
 -- a root whose state the pool has the files of, or hasn't
-pub loads_files : (f : Files) (s : StateView) (r : Result StateView LoadFault) → Valid s → f root ≡ Some (root_text s) → IfOk r (λ loaded. loaded ≡ s) → AreLookedFor f s.known r → MayLoad f r
-loads_files f s r valid there same w = go r same w
+pub loads_files : (f : Files) (s : StateView) (r : Result StateView LoadFault) → IsHeld s → f root ≡ Some (root_text s) → IfOk r (λ loaded. loaded ≡ s) → AreLookedFor f s.known r → MayLoad f r
+loads_files f s r held there same w = go r same w
   where
     wrong : (p : Card) (d : Damage) → IsFirstAmiss f s.known p → IsWrong f p d → RootApart f → SoundForNone f
     wrong p d first w apart t sound =
-        let one : t ≡ s = root_once f t s apart sound.valid valid sound.root (inl there) in
+        let one : t ≡ s = root_once f t s apart sound.held.valid held.valid sound.root (inl there) in
         let all : All (HasFile f) s.known = subst (λ (x : StateView). All (HasFile f) x.known) one sound.there in
         let cut : All (HasFile f) (first.front ++ p ∷ first.back) = subst (All (HasFile f)) first.split all in
         no_file f p d w (subst (HasFile f) (get_or-append_seam first.front p first.back p) (cut (length first.front) p (omega (arith, length-append first.front (p ∷ first.back)))))
 
     listed : (p : Card) → IsFirstAmiss f s.known p → IsListed f p
-    listed p first = record { state = s; valid = valid; root = inl there; first = first }
+    listed p first = record { state = s; valid = held.valid; root = inl there; first = first }
 
     go : (v : Result StateView LoadFault) → IfOk v (λ loaded. loaded ≡ s) → AreLookedFor f s.known v → MayLoad f v
-    go (Ok t) e all = subst (Sound f) (sym e) (record { valid = valid; root = inl there; there = all })
+    go (Ok t) e all = subst (Sound f) (sym e) (record { held = held; root = inl there; there = all })
     go (Err (Damaged (Missing path))) e w = λ apart. (wrong w.0 (Missing path) w.1 w.2 apart, (w.0, listed w.0 w.1, w.2))
     go (Err (Damaged (Size path said found))) e w = λ apart. (wrong w.0 (Size path said found) w.1 w.2 apart, (w.0, listed w.0 w.1, w.2))
     go (Err (Damaged (Digest path said found))) e w = absurd w.2

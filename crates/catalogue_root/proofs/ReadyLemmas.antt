@@ -59,7 +59,7 @@ module _ {T : Type 0} (s t : StateView) (st : StageState) (r : Result T HostErr)
   pub ready : (v : T) → r ≡ Ok v → MayCommit s t st l → MaySet s t (extended b l)
   ready v is may = record {
     rest = λ f image. open_same s (live_of l) f (as_live f image) (may.rest (live_of l) (law_of_live_image l));
-    valid = may.next.valid;
+    held = may.next.held;
     bodies = λ f image. bodies_along (live_of l) f t.known (as_live f image) may.next.bodies;
   }
     where

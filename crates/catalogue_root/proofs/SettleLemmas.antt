@@ -18,7 +18,7 @@ use Rattle.hash_pool.proofs.NameLemmas.{not_both}
 use Rattle.machine_state.specs.Values.{StateView}
 use Rattle.catalogue_root.specs.Opens.{IsSettling, SettlesTo}
 use Rattle.catalogue_root.specs.Store.{root, IsRootOf, Fits, Open, NoneStaged, store}
-use Rattle.catalogue_root.proofs.FitLemmas.{Staged, Free, staged_free, root_not_staged, open_along, open_serves}
+use Rattle.catalogue_root.proofs.FitLemmas.{Staged, staged_free, root_not_staged, open_along, open_serves}
 use Rattle.catalogue_root.proofs.CommitLemmas.{Holds, holds_along, staged_phase, nothing_phase, barrier_phase}
 
 pub clears_each : (Q : Op → Type 0) → ((p : Path) → IsTrue (is_staged p) → Q (Remove p)) → (a : List Op) → EachOp ClearsStaged a → EachOp Q a
@@ -91,10 +91,10 @@ module _ (s : StateView) (l : Log) (durable : Durable l) (stands : Open (live_of
   touches a each = clears_each (TouchesOnly Staged) (λ p is. is) a each
 
   pub nothing_settled : Grows store s s l []
-  nothing_settled = nothing_phase s s stands.valid stands.valid l [] holds_durable refl
+  nothing_settled = nothing_phase s s stands.held stands.held l [] holds_durable refl
 
   pub clear_phase : (a : List Op) → EachOp ClearsStaged a → Grows store s s l a
-  clear_phase a each = staged_phase s s stands.valid stands.valid l a holds_durable (clears_quiet a each) (touches a each)
+  clear_phase a each = staged_phase s s stands.held stands.held l a holds_durable (clears_quiet a each) (touches a each)
 
   module _ {T : Type 0} (a b : List Op) (each : EachOp ClearsStaged a) (st : StageState) (r : Result T HostErr) (barriers : Barriers st r (extended a l) b) where
     abbrev pub m : Log
@@ -110,8 +110,8 @@ module _ (s : StateView) (l : Log) (durable : Durable l) (stands : Open (live_of
     second = go st.touched barriers.made
       where
         go : (x : Bool) → MatchBool x (Did Barrier r b) (b ≡ []) → Grows store s s m b
-        go true d = barrier_phase s s stands.valid stands.valid m b r at_mid d
-        go false d = nothing_phase s s stands.valid stands.valid m b at_mid d
+        go true d = barrier_phase s s stands.held stands.held m b r at_mid d
+        go false d = nothing_phase s s stands.held stands.held m b at_mid d
 
     pub settle_phase : Grows store s s l (a ++ b)
     settle_phase = grows_then store s s l a b (clear_phase a each) second

@@ -9,9 +9,8 @@ use Rattle.run_model.specs.Run.{Grows, AtRest}
 use Rattle.stage_file.specs.Stage.{StageState, is_staged, IsInStep}
 use Rattle.hash_pool.specs.Growth.{targets, IsOnce}
 use Rattle.hash_pool.specs.Bodies.{HasBody}
-use Rattle.machine_state.specs.State.{Valid}
 use Rattle.machine_state.specs.Values.{StateView}
-use Rattle.catalogue_root.specs.Store.{root, store}
+use Rattle.catalogue_root.specs.Store.{IsHeld, root, store}
 
 -- The paths that a commit sets, from the log at its start on: so far the root alone. What is said of the targets of commits and of
 -- commands is said by this.
@@ -40,7 +39,7 @@ IsSaving None l op = ⊥
 
 -- a state that may be committed: the pool has the file of each package that it knows
 pub record IsNext (state : StateView) (l : Log) : Type 0 where
-  pub valid : Valid state
+  pub held : IsHeld state
   pub bodies : All (HasBody (live_of l)) state.known
 
 -- where a commit may begin: each image stands for the old state, what the stage hasn't touched is durable, and the new state's
@@ -53,7 +52,7 @@ pub record MayCommit (old new : StateView) (stage : StageState) (l : Log) : Type
 -- where the root may be set: each image stands for the old state, and has the new state's files too
 pub record MaySet (old new : StateView) (l : Log) : Type 0 where
   pub rest : AtRest store old l
-  pub valid : Valid new
+  pub held : IsHeld new
   pub bodies : Images l (λ f. All (HasBody f) new.known)
 
 -- What a commit sets is set, no path twice, the root to the text of the new state. A stop leaves the old state or the new one,

@@ -1,5 +1,5 @@
 -- What a load gives, and what is wrong in files that stand for no state.
-use Rattle.std.specs.Prelude.{◌≡◌, ◌≢◌, ℕ, List, ◌∷◌, ◌++◌, All, Some, None, Result, Ok, Err, length}
+use Rattle.std.specs.Prelude.{◌≡◌, ◌≢◌, ◌⊎◌, ℕ, List, [], ◌∷◌, ◌++◌, All, Some, None, Result, Ok, Err, length}
 use Rattle.ap_host.specs.declared.host.HostErr.{HostErr}
 use Rattle.ap_host.specs.declared.host.HostErr.TheVariants.{Failed, OutOfMemory as NoMemory}
 use Rattle.ap_host.specs.Disk.{Files}
@@ -7,13 +7,14 @@ use Rattle.package_core.specs.Card.{Card}
 use Rattle.hash_pool.specs.Names.{pool_name}
 use Rattle.machine_state.specs.State.{Valid}
 use Rattle.machine_state.specs.Values.{StateView}
+use Rattle.catalogue_text.specs.Places.{publications_place}
 use Rattle.catalogue_text.specs.Root.{root_text}
 use Rattle.catalogue_text.specs.Faults.{TextsApart, IsFirstBadLine}
 use Rattle.catalogue_root.specs.declared.damage.Damage.{Damage}
 use Rattle.catalogue_root.specs.declared.damage.Damage.TheVariants.{Missing, Size, Digest, Unreadable}
 use Rattle.catalogue_root.specs.declared.damage.LoadFault.{LoadFault}
 use Rattle.catalogue_root.specs.declared.damage.LoadFault.TheVariants.{Damaged, HostFault, OutOfMemory}
-use Rattle.catalogue_root.specs.Store.{root, IsRootOf, HasFile, Sound, SoundForNone}
+use Rattle.catalogue_root.specs.Store.{root, IsHeld, IsRootOf, HasFile, Sound, SoundForNone}
 
 -- no two package texts in the root share a SHA-256, so that it tells which packages the repositories list
 abbrev pub RootApart : Files → Type 0
@@ -40,9 +41,21 @@ IsWrong files p (Size path said found) = (path ≡ pool_name p.said.sha256) × (
 IsWrong files p (Digest path said found) = ⊥
 IsWrong files p (Unreadable path line) = ⊥
 
+-- the root is that of a state with a publication, which no store holds so far, and this is the line that counts them
+pub record HasPublications (text : List ℕ) (line : ℕ) : Type 0 where
+  pub state : StateView
+  pub valid : Valid state
+  pub some : state.publications ≢ []
+  pub is : text ≡ root_text state
+  pub place : line ≡ publications_place state
+
+-- the text can't be the root of a store from this line on
+abbrev pub IsUnreadable : List ℕ → ℕ → Type 0
+IsUnreadable text line = IsFirstBadLine text line ⊎ HasPublications text line
+
 -- what is wrong in the files: a line of the root, or the file of the first package that it tells and whose file is amiss
 abbrev pub IsDamage : Files → Damage → Type 0
-IsDamage files (Unreadable path line) = (path ≡ root) × (text : List ℕ) × (files root ≡ Some text) × IsFirstBadLine text line
+IsDamage files (Unreadable path line) = (path ≡ root) × (text : List ℕ) × (files root ≡ Some text) × IsUnreadable text line
 IsDamage files damage = (p : Card) × IsListed files p × IsWrong files p damage
 
 -- whatever the host: what was found differs from what is said
@@ -65,8 +78,8 @@ MayLoad files (Err OutOfMemory) = Unit {0}
 
 -- a load of a root with these bytes
 abbrev pub IsLoadOf : List ℕ → Result StateView LoadFault → Type 0
-IsLoadOf text (Ok state) = Valid state × (text ≡ root_text state)
-IsLoadOf text (Err (Damaged (Unreadable path line))) = (path ≡ root) × (TextsApart text → IsFirstBadLine text line)
+IsLoadOf text (Ok state) = IsHeld state × (text ≡ root_text state)
+IsLoadOf text (Err (Damaged (Unreadable path line))) = (path ≡ root) × (TextsApart text → IsUnreadable text line)
 IsLoadOf text (Err (Damaged (Missing path))) = ⊥
 IsLoadOf text (Err (Damaged (Size path said found))) = ⊥
 IsLoadOf text (Err (Damaged (Digest path said found))) = ⊥

@@ -1,5 +1,5 @@
 -- Which files of a store stand for which state.
-use Rattle.std.specs.Prelude.{◌≡◌, ◌⊎◌, ℕ, List, All, Some, None, IsTrue, length, codes}
+use Rattle.std.specs.Prelude.{◌≡◌, ◌⊎◌, ℕ, List, [], All, Some, None, IsTrue, length, codes}
 use Rattle.sha2.specs.Sha256.{sha256}
 use Rattle.ap_text.specs.Paths.{is_below}
 use Rattle.ap_host.specs.Disk.{Path, Content, Files}
@@ -29,16 +29,21 @@ pub record Fits (state : StateView) (q : Path) (content : Content) : Type 0 wher
   -- below `public/`, nothing
   pub public : IsTrue (is_below (codes "public") q) → content ≡ None
 
+-- a state that files may stand for: a valid one, and so far one without a publication
+pub record IsHeld (state : StateView) : Type 0 where
+  pub valid : Valid state
+  pub published : state.publications ≡ []
+
 -- The files stand for the state: the root has its text, and at each path stands what may stand there.
 pub record Open (files : Files) (state : StateView) : Type 0 where
-  pub valid : Valid state
+  pub held : IsHeld state
   pub root : IsRootOf (files root) state
   pub fits : (q : Path) → Fits state q (files q)
 
 -- The files hold the state, whole, whatever clients find: the pool has the body of each known package, and each file of the pool
 -- has the name of its SHA-256.
 pub record Stored (files : Files) (state : StateView) : Type 0 where
-  pub valid : Valid state
+  pub held : IsHeld state
   pub root : IsRootOf (files root) state
   pub bodies : All (HasBody files) state.known
   pub named : IsNamed files
@@ -51,7 +56,7 @@ pub record HasFile (files : Files) (p : Card) : Type 0 where
 
 -- what a load can see of it: it reads no file of the pool
 pub record Sound (files : Files) (state : StateView) : Type 0 where
-  pub valid : Valid state
+  pub held : IsHeld state
   pub root : IsRootOf (files root) state
   pub there : All (HasFile files) state.known
 

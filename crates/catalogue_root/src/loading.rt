@@ -5,6 +5,7 @@ ghost use Rattle.std.specs.Rc.{rc_value};
 ghost use Rattle.ap_host.specs.Disk.{live_of};
 ghost use Rattle.ap_host.specs.Calls.{CauseOf};
 ghost use Rattle.machine_state.specs.State.{Valid};
+ghost use Rattle.catalogue_text.specs.Root.{root_text};
 ghost use Rattle.catalogue_root.specs.declared.damage.LoadFault.TheVariants.{HostFault};
 ghost use Rattle.catalogue_root.specs.Loads.{AreLookedFor, DiffersIn, IsLoadOf, IsLookedFor, MayLoad};
 ghost use Rattle.catalogue_root.specs.Store.{root};
@@ -12,7 +13,7 @@ ghost use Rattle.catalogue_root.specs.Store.{root};
 use crate::damage::{Damage, LoadFault};
 use ap_host::Host;
 use ap_text::SafePath;
-use catalogue_text::{RootFault, read_root};
+use catalogue_text::{RootFault, publications_line, read_root};
 use hash_pool::{length, pool_path, read_whole};
 use machine_state::State;
 use package_core::Package;
@@ -23,13 +24,27 @@ use std::rc::Rc;
 /// The path of the root.
 pub const ROOT: &str = "db/root";
 
+/// The state, whose text the root at this path is. So far no store holds a publication: a root that has one can't be read from the
+/// line on that counts them.
+fn without_publications(alloc: Global, path: SafePath, state: State) -> Result<State, LoadFault>
+    requires path { path ≡ root }
+    requires valid { Valid state }
+    ensures { IsLoadOf (root_text state) result }
+{
+    if state.publications.is_empty() {
+        return Ok(state);
+    }
+    let line = publications_line(alloc, &state)?;
+    Err(LoadFault::Damaged(Damage::Unreadable { path, line }))
+}
+
 /// The state whose text the root is.
 fn state_of(alloc: Global, path: SafePath, text: &[u8]) -> Result<State, LoadFault>
     requires { path ≡ root }
     ensures { IsLoadOf text.now result }
 {
     match read_root(alloc, text) {
-        Ok(state) => Ok(state),
+        Ok(state) => without_publications(alloc, path, state),
         Err(RootFault::At { line }) => Err(LoadFault::Damaged(Damage::Unreadable { path, line })),
         Err(RootFault::OutOfMemory) => Err(LoadFault::OutOfMemory),
     }

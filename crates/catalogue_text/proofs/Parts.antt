@@ -5,7 +5,8 @@ use Rattle.std.specs.Str.{bytes_eq}
 use Rattle.catalogue_text.specs.Lines.{IsLine}
 use Rattle.catalogue_text.specs.Pieces.{Piece, alone, packed, Takes}
 use Rattle.catalogue_text.specs.Grammar.{Line, Series}
-use Rattle.catalogue_text.specs.Reading.{NoLine, Stops, Never, Always, Each}
+use Rattle.catalogue_text.specs.Reading.{NoLine, ReadsLine, ReadsPart, Stops, Never, Always, Each}
+use Rattle.catalogue_text.specs.MirrorReading.{Then}
 
 -- the line isn't the line of a package
 abbrev pub IsOther : List ℕ → Type 0
@@ -37,7 +38,7 @@ abbrev pub line_of : {A : Type 0} → (A → List ℕ) → A → List Piece
 line_of spelled a = alone (spelled a) ∷ []
 
 module _ {A : Type 0} (spelled : A → List ℕ) (Good : A → Type 0) where
-  line_mono : (K L : A → List Piece → Type 0) → ((a : A) (xs : List Piece) → K a xs → L a xs) → (xs : List Piece) → Line spelled Good K xs → Line spelled Good L xs
+  pub line_mono : (K L : A → List Piece → Type 0) → ((a : A) (xs : List Piece) → K a xs → L a xs) → (xs : List Piece) → Line spelled Good K xs → Line spelled Good L xs
   line_mono K L h [] l = tt
   line_mono K L h (alone x ∷ xs) l = (l.0, l.1, l.2, h l.0 xs l.3)
   line_mono K L h (packed p ∷ xs) l = l
@@ -121,6 +122,63 @@ module _ {A B : Type 0} (F : (A → List Piece → Type 0) → List Piece → Ty
     stand = f.along (λ a. G a Never) a s.good good s.stand;
     bad = λ next behind u p. s.bad next behind u (ft (λ a. G a Always) a (s.good ++ next ∷ []) good (subst (Both Always) (append_assoc (first a) s.good (next ∷ [])) p));
   }
+
+-- ---- one part behind another that doesn't depend on it
+module _ {A B : Type 0} (F : (A → List Piece → Type 0) → List Piece → Type 0) (G : (B → List Piece → Type 0) → List Piece → Type 0)
+    (first : A → List Piece) (second : B → List Piece) (GoodF : A → Type 0) (GoodG : B → Type 0) (f : IsPart F first GoodF) where
+  abbrev pub then_pieces : A × B → List Piece
+  then_pieces p = first p.0 ++ second p.1
+
+  abbrev pub GoodThen : A × B → Type 0
+  GoodThen p = GoodF p.0 × GoodG p.1
+
+  pub then_part : IsPart G second GoodG → IsPart (Then F G) then_pieces GoodThen
+  then_part g = record {
+    along = λ K p more good k. subst (Then F G K) (sym (append_assoc (first p.0) (second p.1) more)) (f.along (λ a. G (λ b. K (a, b))) p.0 (second p.1 ++ more) good.0 (g.along (λ b. K (p.0, b)) p.1 more good.1 k));
+    mono = λ K L h xs q. f.mono (λ a. G (λ b. K (a, b))) (λ a. G (λ b. L (a, b))) (λ a ys r. g.mono (λ b. K (a, b)) (λ b. L (a, b)) (λ b zs t. h (a, b) zs t) ys r) xs q;
+    front = λ K h xs ys q. f.front (λ a. G (λ b. K (a, b))) (λ a us vs r. g.front (λ b. K (a, b)) (λ b ws zs t. h (a, b) ws zs t) us vs r) xs ys q;
+    others = λ K h xs q. f.others (λ a. G (λ b. K (a, b))) (λ a ys r. g.others (λ b. K (a, b)) (λ b zs t. h (a, b) zs t) ys r) xs q;
+  }
+
+  pub then_told : IsTold F first GoodF → IsTold G second GoodG → IsTold (Then F G) then_pieces GoodThen
+  then_told ft gt K p more good q =
+      gt (λ b. K (p.0, b)) p.1 more good.1 (ft (λ a. G (λ b. K (a, b))) p.0 (second p.1 ++ more) good.0 (subst (Then F G K) (append_assoc (first p.0) (second p.1) more) q))
+
+  pub stops_in_first : IsPart G second GoodG → (text : List ℕ) (left : ℕ) → Stops F text left → Stops (Then F G) text left
+  stops_in_first g text left s = record {
+    good = s.good;
+    rest = s.rest;
+    takes = s.takes;
+    left_is = s.left_is;
+    stand = f.mono Never (λ a. G (λ b. Never {A = A × B} (a, b))) (λ a xs n. absurd n) s.good s.stand;
+    bad = λ next behind t p. s.bad next behind t (f.mono (λ a. G (λ b. Always {A = A × B} (a, b))) Always (λ a xs n. tt) (s.good ++ next ∷ []) p);
+  }
+
+  pub stops_in_second : IsTold F first GoodF → (text rest : List ℕ) (left : ℕ) (a : A) → ReadsPart first GoodF text a rest → Stops G rest left → Stops (Then F G) text left
+  stops_in_second ft text rest left a r s = record {
+    good = first a ++ s.good;
+    rest = s.rest;
+    takes = takes_both text rest s.rest (first a) s.good r.takes s.takes;
+    left_is = s.left_is;
+    stand = f.along (λ a. G (λ b. Never {A = A × B} (a, b))) a s.good r.good s.stand;
+    bad = λ next behind u p. s.bad next behind u (ft (λ a. G (λ b. Always {A = A × B} (a, b))) a (s.good ++ next ∷ []) r.good (subst (Then F G Always) (append_assoc (first a) s.good (next ∷ [])) p));
+  }
+
+pub reads_then : {A B : Type 0} (first : A → List Piece) (second : B → List Piece) (GoodF : A → Type 0) (GoodG : B → Type 0) (text mid rest : List ℕ) (a : A) (b : B) → ReadsPart first GoodF text a mid → ReadsPart second GoodG mid b rest
+    → ReadsPart {A = A × B} (λ p. first p.0 ++ second p.1) (λ p. GoodF p.0 × GoodG p.1) text (a, b) rest
+reads_then first second GoodF GoodG text mid rest a b r s = record { good = (r.good, s.good); takes = takes_both text mid rest (first a) (second b) r.takes s.takes }
+
+pub line_read : {A : Type 0} (spelled : A → List ℕ) (Good : A → Type 0) (text rest : List ℕ) (a : A) → ReadsLine spelled Good text a rest → ReadsPart (line_of spelled) Good text a rest
+line_read spelled Good text rest a r = record { good = r.0; takes = (rest, r.1, refl) }
+
+-- a line before a part that doesn't depend on it
+module _ {A B : Type 0} (spelled : A → List ℕ) (Good : A → Type 0) (G : (B → List Piece → Type 0) → List Piece → Type 0) (second : B → List Piece) (GoodG : B → Type 0)
+    (f : IsPart (Line spelled Good) (line_of spelled) Good) (g : IsPart G second GoodG) where
+  pub line_in : (text : List ℕ) → NoLine spelled Good text → Stops (Then (Line spelled Good) G) text (length text)
+  line_in text none = stops_in_first (Line spelled Good) G (line_of spelled) second Good GoodG f g text (length text) (stops_line spelled Good text none)
+
+  pub line_up : IsTold (Line spelled Good) (line_of spelled) Good → (text rest : List ℕ) (left : ℕ) (a : A) → ReadsLine spelled Good text a rest → Stops G rest left → Stops (Then (Line spelled Good) G) text left
+  line_up told text rest left a r s = stops_in_second (Line spelled Good) G (line_of spelled) second Good GoodG f told text rest left a (line_read spelled Good text rest a r) s
 
 -- ---- a part whose value is read as another
 module _ {A B : Type 0} (F : (A → List Piece → Type 0) → List Piece → Type 0) (first : A → List Piece) (GoodF : A → Type 0) (to : A → B) (of : B → A) (f : IsPart F first GoodF) where

@@ -36,13 +36,13 @@ line_plain (b ∷ bs) e =
     apart : (b : ℕ) → is_line_byte b ≡ true → (b == 10) ≡ false
     apart b h = grind (arith, nat_tests)
 
-is_name_plain : (bs : List ℕ) → is_name bs ≡ true → IsPlain bs
+pub is_name_plain : (bs : List ℕ) → is_name bs ≡ true → IsPlain bs
 is_name_plain bs e = name_plain bs (and_parts _ (list_all is_name_byte bs) e).1
 
-is_line_plain : (bs : List ℕ) → is_line bs ≡ true → IsPlain bs
+pub is_line_plain : (bs : List ℕ) → is_line bs ≡ true → IsPlain bs
 is_line_plain bs e = line_plain bs (and_parts _ (list_all is_line_byte bs) (and_parts _ _ (and_parts _ _ e).0).0).1
 
-setting_plain : (bs : List ℕ) → IsPlain bs → IsPlain (blank_and bs)
+pub setting_plain : (bs : List ℕ) → IsPlain bs → IsPlain (blank_and bs)
 setting_plain [] p = refl
 setting_plain (b ∷ bs) p = p
 

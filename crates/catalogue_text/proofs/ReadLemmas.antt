@@ -1,13 +1,10 @@
 -- The reading of each part: what is read, and where it stops.
-use Rattle.std.proofs.Common.{◌≡◌, ℕ, zero, suc, ◌+◌, ◌<◌, ◌≤◌, ◌^◌, ◌↔◌, Bool, true, false, if◌then◌else◌, List, [], ◌∷◌, ◌++◌, length, Option, Some, None, Result, Ok, Err, IsTrue, IsFalse, codes, refl, sym, ap, ◌∙◌, subst, arith, append-nil, append_assoc, length-append, Ordering, Less, Equal, Greater}
+use Rattle.std.proofs.Common.{◌≡◌, ℕ, zero, suc, ◌+◌, ◌<◌, ◌≤◌, ◌^◌, ◌↔◌, Bool, true, false, if◌then◌else◌, List, [], ◌∷◌, ◌++◌, length, Option, Some, None, Result, Ok, Err, IsTrue, IsFalse, codes, refl, sym, ap, ◌∙◌, subst, arith, append-nil, append_assoc, length-append}
 use Rattle.std.specs.Prelude.{slice_get, MatchBool}
 use Rattle.std.specs.List.{flat_map}
 use Rattle.std.specs.Result.{IfOk, IfErr}
 use Rattle.std.specs.Fmt.{decimal}
-use Rattle.std.specs.Ordering.{is_lt}
 use Rattle.std.proofs.lemmas.Bool.{true≢false}
-use Rattle.std.proofs.lemmas.Cmp.{nat_list_cmp_total}
-use Rattle.std.proofs.lemmas.List.{append_cancel_left}
 use Rattle.std.proofs.lemmas.List.Concat.{flat_map-append, flat_map_single}
 use Rattle.package_core.specs.Card.{Card}
 use Rattle.package_core.specs.Order.{package_cmp}
@@ -16,9 +13,7 @@ use Rattle.package_list.specs.Lists.{clashes}
 use Rattle.machine_state.specs.declared.limit.Limit.TheVariants.{Repos, Snapshots, Packages, Known}
 use Rattle.machine_state.specs.declared.repo.Repo.{Repo}
 use Rattle.machine_state.specs.declared.snapshot.Snapshot.{Snapshot}
-use Rattle.machine_state.specs.Ascending as names
 use Rattle.machine_state.specs.Limits.{limit_number}
-use Rattle.machine_state.specs.Named.{name_cmp, named_cmp}
 use Rattle.machine_state.specs.State.{repo_name, IsLineText}
 use Rattle.catalogue_text.specs.Lines.{IsLine}
 use Rattle.catalogue_text.specs.Pieces.{Piece, alone, packed, Begins, Takes}
@@ -29,9 +24,9 @@ use Rattle.catalogue_text.specs.declared.stop.Stop.TheVariants.{Before, OutOfMem
 use Rattle.catalogue_text.specs.Reading.{IfBefore, NoLine, ReadsLine, Stops, Always, Each, ReadsSeries, ReadsPart, GoodSet, GoodRepo, GoodSnapshot, GoodKnown, GoodRepos, GoodSnapshots, PlaceIs, IdsApart, AddsMember}
 use Rattle.catalogue_text.proofs.LineLemmas.{line_unique, same_line}
 use Rattle.catalogue_text.proofs.Parts.{IsPart, IsOther, takes_both, line_of, stops_line, stops_first, stops_then, stops_as, stops_series, series_part}
-use Rattle.catalogue_text.proofs.RootParts.{Any, package_pieces, package_part, package_told, fixed_part, fixed_told, count_part, count_told, member_pieces, member_part, member_told, repo_part, repo_told, IsDistribution, IsComponent, FromSet, FromComponent, FromDistribution, FromComment, set_of, component_of, distribution_of, comment_of, GoodFromSet, GoodFromComponent, GoodFromDistribution, GoodFromComment, made, set_part, from_set, from_component, from_distribution, from_comment, name_part, name_told, comment_part, comment_told, distribution_part, distribution_told, component_part, component_told, KnownSeries, counted_known, ReposSeries, counted_repos, EndLine, end_part, snapshot_part, snapshot_told, frozen, FromList, list_of, IsTitle, GoodFromList, title_part, title_told, from_list}
+use Rattle.catalogue_text.proofs.RootParts.{Any, package_pieces, package_part, package_told, fixed_part, fixed_told, count_part, count_told, member_pieces, member_part, member_told, repo_part, repo_told, IsDistribution, IsComponent, FromSet, FromComponent, FromDistribution, FromComment, set_of, component_of, distribution_of, comment_of, GoodFromSet, GoodFromComponent, GoodFromDistribution, GoodFromComment, made, set_part, from_set, from_component, from_distribution, from_comment, name_part, name_told, comment_part, comment_told, distribution_part, distribution_told, component_part, component_told, KnownSeries, counted_known, snapshot_part, snapshot_told, frozen, FromList, list_of, IsTitle, GoodFromList, title_part, title_told, from_list}
 use Rattle.catalogue_text.proofs.PlainLemmas.{known_other, repos_other, snapshots_other, set_other}
-use Rattle.catalogue_text.proofs.ValidLemmas.{NamesBefore, all_cons, all_tail, all_none, known_at, place_at}
+use Rattle.catalogue_text.proofs.ValidLemmas.{known_at, place_at}
 
 pub not_pushed : (b : Bool) (P Q : Type 0) → b ≡ false → MatchBool b P Q → Q
 not_pushed true P Q e h = absurd (true≢false e)
@@ -164,38 +159,6 @@ joins_not known list text id rest place done h sorted f answer l apart a behind 
     let same : a ≡ h.0 = apart a h.0 m.known_is (known_at known place h.0 sorted h.1) (sym (line_unique text id (id_of a) rest behind l k).0 ∙ sym h.2) in
     true≢false (sym (answer.1 (subst (AllLess package_cmp list) same m.after, ap (clashes list) (sym same) ∙ m.apart)) ∙ f)
 
--- ---- names
-module _ {X : Type 0} (name_of : X → List ℕ) where
-  names_by_last : (front : List X) (last : X) (name : List ℕ) → names.IsAscending (named_cmp name_of) (front ++ last ∷ []) → name_cmp name_of last name ≡ Less → NamesBefore name_of (front ++ last ∷ []) name
-  names_by_last [] last name a h = all_cons (λ x. name_cmp name_of x name ≡ Less) last [] h (all_none (λ x. name_cmp name_of x name ≡ Less))
-  names_by_last (r ∷ rs) last name a h =
-      all_cons (λ x. name_cmp name_of x name ≡ Less) r (rs ++ last ∷ []) (nat_list_cmp_total.trans (name_of r) (name_of last) name (below rs a.0) h) (names_by_last rs last name a.1 h)
-    where
-      below : (rs : List X) → names.IsBelow (named_cmp name_of) r (rs ++ last ∷ []) → name_cmp name_of r (name_of last) ≡ Less
-      below [] b = b.0
-      below (s ∷ rs) b = below rs b.1
-
-  last_named : (front : List X) (last : X) (name : List ℕ) → NamesBefore name_of (front ++ last ∷ []) name → name_cmp name_of last name ≡ Less
-  last_named [] last name h = h 0 last (omega arith)
-  last_named (r ∷ rs) last name h = last_named rs last name (all_tail (λ x. name_cmp name_of x name ≡ Less) r (rs ++ last ∷ []) h)
-
-  pub follows_last : (lt : Bool) (o : Ordering) (done front : List X) (last : X) (name : List ℕ) → names.IsAscending (named_cmp name_of) done → done ≡ front ++ last ∷ [] → lt ≡ is_lt o → o ≡ name_cmp name_of last name → IsTrue lt ↔ NamesBefore name_of done name
-  follows_last lt o done front last name a e h k = (
-    λ t. subst (λ (l : List X). NamesBefore name_of l name) (sym e) (names_by_last front last name (subst (names.IsAscending (named_cmp name_of)) e a) (less (name_cmp name_of last name) (ap is_lt (sym k) ∙ sym h ∙ t))),
-    λ l. h ∙ ap is_lt (k ∙ last_named front last name (subst (λ (l : List X). NamesBefore name_of l name) e l)),
-  )
-    where
-      less : (o : Ordering) → is_lt o ≡ true → o ≡ Less
-      less Less h = refl
-      less Equal h = cc
-      less Greater h = cc
-
-  -- a name that doesn't follow is not the next
-  pub not_next : (key : List ℕ) (before : List X) (text rest name : List ℕ) (follows : Bool) → follows ≡ false → (IsTrue follows ↔ NamesBefore name_of before name) → IsLine text (key ++ name) rest → NoLine (λ n. key ++ n) (IsNext name_of before) text
-  not_next key before text rest name follows f h l a behind g m =
-      let same : name ≡ a = append_cancel_left key name a (line_unique text (key ++ name) (key ++ a) rest behind l m).0 in
-      true≢false (sym (h.1 (subst (NamesBefore name_of before) (sym same) g.1)) ∙ f)
-
 -- ---- what a result says
 pub if_ok : {X E : Type 0} (P Q : X → Type 0) → ((x : X) → P x → Q x) → (r : Result X E) → IfOk r P → IfOk r Q
 if_ok P Q f (Ok x) h = f x h
@@ -249,27 +212,19 @@ module _ (known : List Card) where
   }
 
   -- ---- the repositories
-  pub repos_first : (text : List ℕ) → ((behind : List ℕ) → IsLine text (codes "mirrors 0") behind → ⊥) → Stops (ReposPart known) text (length text)
+  pub repos_count : (text : List ℕ) (most : ℕ) → most ≡ limit_number Repos → NoLine repos_line (λ n. n ≤ most) text → Stops (ReposPart known) text (length text)
   unfolding ReposPart
-  repos_first text none = fixed_in (codes "mirrors 0") refl (ReposSeries known) _ _ (counted_repos known) text none
+  repos_count text most e none = counted_in (codes "repos ") (limit_number Repos) repos_other (omega arith) (NextRepo known) repo_pieces (GoodRepo known) (repo_part known) text most e none
 
-  pub repos_count : (text rest : List ℕ) (most : ℕ) → IsLine text (codes "mirrors 0") rest → most ≡ limit_number Repos → NoLine repos_line (λ n. n ≤ most) rest → Stops (ReposPart known) text (length rest)
+  pub repos_rest : (text mid : List ℕ) (n most left : ℕ) → most ≡ limit_number Repos → n ≤ most → IsLine text (repos_line n) mid → Stops (Series n (NextRepo known) []) mid left → Stops (ReposPart known) text left
   unfolding ReposPart
-  repos_count text rest most l e none =
-      fixed_up (codes "mirrors 0") refl (ReposSeries known) _ _ (counted_repos known) text rest (length rest) l
-      (counted_in (codes "repos ") (limit_number Repos) repos_other (omega arith) (NextRepo known) repo_pieces (GoodRepo known) (repo_part known) rest most e none)
+  repos_rest text mid n most left e few m s = counted_up (codes "repos ") (limit_number Repos) repos_other (omega arith) (NextRepo known) repo_pieces (GoodRepo known) (repo_part known) text mid n left (omega arith) m s
 
-  pub repos_rest : (text rest mid : List ℕ) (n most left : ℕ) → IsLine text (codes "mirrors 0") rest → most ≡ limit_number Repos → n ≤ most → IsLine rest (repos_line n) mid → Stops (Series n (NextRepo known) []) mid left → Stops (ReposPart known) text left
-  unfolding ReposPart
-  repos_rest text rest mid n most left l e few m s =
-      fixed_up (codes "mirrors 0") refl (ReposSeries known) _ _ (counted_repos known) text rest left l
-      (counted_up (codes "repos ") (limit_number Repos) repos_other (omega arith) (NextRepo known) repo_pieces (GoodRepo known) (repo_part known) rest mid n left (omega arith) m s)
-
-  pub repos_read : (text rest mid : List ℕ) (n most : ℕ) → IsLine text (codes "mirrors 0") rest → most ≡ limit_number Repos → n ≤ most → IsLine rest (repos_line n) mid → (xs : List Repo) (behind : List ℕ) → ReadsSeries repo_pieces (GoodRepo known) n mid xs behind → ReadsPart repos_pieces (GoodRepos known) text xs behind
+  pub repos_read : (text mid : List ℕ) (n most : ℕ) → most ≡ limit_number Repos → n ≤ most → IsLine text (repos_line n) mid → (xs : List Repo) (behind : List ℕ) → ReadsSeries repo_pieces (GoodRepo known) n mid xs behind → ReadsPart repos_pieces (GoodRepos known) text xs behind
   unfolding repos_pieces
-  repos_read text rest mid n most l e few m xs behind r = record {
+  repos_read text mid n most e few m xs behind r = record {
     good = (let c = r.counted in omega arith, r.good);
-    takes = (rest, l, (mid, subst (λ (k : ℕ). IsLine rest (repos_line k) mid) (sym r.counted) m, r.takes));
+    takes = (mid, subst (λ (k : ℕ). IsLine text (repos_line k) mid) (sym r.counted) m, r.takes);
   }
 
   -- ---- the snapshots
@@ -289,19 +244,13 @@ module _ (known : List Card) where
   }
 
   -- ---- the end
-  pub last_first : (text : List ℕ) → ((behind : List ℕ) → IsLine text (codes "publications 0") behind → ⊥) → Stops (LastPart known) text (length text)
+  pub last_stops : (text : List ℕ) → ((behind : List ℕ) → IsWithinLimits known → IsLine text (codes "end") behind → ⊥) → Stops (LastPart known) text (length text)
   unfolding LastPart
-  last_first text none = fixed_in (codes "publications 0") refl (EndLine known) _ _ (end_part known) text none
+  last_stops text none = stops_line {A = Unit {0}} (λ u. codes "end") (λ u. IsWithinLimits known) text (λ u behind g k. none behind g k)
 
-  pub last_second : (text rest : List ℕ) → IsLine text (codes "publications 0") rest → ((behind : List ℕ) → IsWithinLimits known → IsLine rest (codes "end") behind → ⊥) → Stops (LastPart known) text (length rest)
-  unfolding LastPart
-  last_second text rest l none =
-      fixed_up (codes "publications 0") refl (EndLine known) _ _ (end_part known) text rest (length rest) l
-      (stops_line {A = Unit {0}} (λ u. codes "end") (λ u. IsWithinLimits known) rest (λ u behind g k. none behind g k))
-
-  pub last_read : (text rest behind : List ℕ) → IsLine text (codes "publications 0") rest → IsLine rest (codes "end") behind → IsWithinLimits known → ReadsPart {A = Unit {0}} (λ u. last_pieces) (λ u. IsWithinLimits known) text tt behind
+  pub last_read : (text behind : List ℕ) → IsLine text (codes "end") behind → IsWithinLimits known → ReadsPart {A = Unit {0}} (λ u. last_pieces) (λ u. IsWithinLimits known) text tt behind
   unfolding last_pieces
-  last_read text rest behind l m g = record { good = g; takes = (rest, l, (behind, m, refl)) }
+  last_read text behind m g = record { good = g; takes = (behind, m, refl) }
 
 -- ---- a repository
 module _ (known : List Card) (before : List Repo) where

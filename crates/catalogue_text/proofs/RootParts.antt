@@ -1,5 +1,5 @@
 -- The parts of a root, one behind another.
-use Rattle.std.proofs.Common.{◌≡◌, ℕ, ◌<◌, ◌≤◌, ◌^◌, List, [], ◌∷◌, ◌++◌, length, codes, Option, Some, None, IsTrue, IfSome, refl, sym, ap, subst, arith, append_assoc}
+use Rattle.std.proofs.Common.{◌≡◌, ℕ, ◌<◌, ◌≤◌, ◌^◌, List, [], ◌∷◌, ◌++◌, length, codes, Option, Some, None, IsTrue, IfSome, refl, sym, ap, subst, arith}
 use Rattle.std.specs.List.{flat_map}
 use Rattle.std.specs.Option.{unwrap_or}
 use Rattle.std.specs.Fmt.{decimal}
@@ -14,13 +14,13 @@ use Rattle.machine_state.specs.declared.limit.Limit.TheVariants.{Repos, Snapshot
 use Rattle.machine_state.specs.declared.repo.Repo.{Repo}
 use Rattle.machine_state.specs.declared.snapshot.Snapshot.{Snapshot}
 use Rattle.machine_state.specs.Limits.{limit_number}
-use Rattle.machine_state.specs.State.{IsLineText, empty, repo_name, snapshot_name}
-use Rattle.machine_state.specs.Values.{StateView}
+use Rattle.machine_state.specs.State.{IsLineText, repo_name, snapshot_name}
 use Rattle.catalogue_text.specs.Pieces.{Piece, alone, packed}
-use Rattle.catalogue_text.specs.Root.{id_of, blank_and, known_line, repos_line, name_line, comment_line, distribution_line, component_line, snapshots_line, snapshot_line, set_line, set_pieces, repo_pieces, known_pieces, repos_pieces, snapshot_pieces, snapshots_pieces, last_pieces, root_pieces}
-use Rattle.catalogue_text.specs.Grammar.{Line, Series, Count, NextPackage, NextMember, MayJoin, SetPart, IsName, IsNext, NextRepo, NextSnapshot, LastPart, KnownPart, ReposPart, SnapshotsPart, Root, IsWithinLimits}
+use Rattle.catalogue_text.specs.Root.{id_of, blank_and, known_line, repos_line, name_line, comment_line, distribution_line, component_line, snapshots_line, snapshot_line, set_line, set_pieces, repo_pieces, known_pieces, repos_pieces, snapshot_pieces, snapshots_pieces, last_pieces}
+use Rattle.catalogue_text.specs.Grammar.{Line, Series, Count, NextPackage, NextMember, MayJoin, SetPart, IsName, IsNext, NextRepo, NextSnapshot, LastPart, KnownPart, ReposPart, SnapshotsPart, IsWithinLimits}
 use Rattle.catalogue_text.specs.Reading.{Each, GoodSet, GoodRepo, GoodSnapshot, GoodKnown, GoodRepos, GoodSnapshots, IdsApart}
 use Rattle.catalogue_text.proofs.Parts.{IsPart, IsTold, Others, IsOther, line_of, line_part, line_told, both_part, both_told, as_part, as_told, series_part, series_told, part_when}
+use Rattle.catalogue_text.proofs.ValueLemmas.{settings_apart}
 use Rattle.catalogue_text.proofs.PlainLemmas.{id_other, known_other, repos_other, snapshots_other, snapshot_other, set_other, name_other, comment_other, distribution_other, component_other}
 
 -- ---- one package
@@ -148,12 +148,6 @@ module _ (known : List Card) where
 -- ---- the settings are told by their lines
 names_apart : (key a b : List ℕ) → key ++ a ≡ key ++ b → b ≡ a
 names_apart key a b e = sym (append_cancel_left key a b e)
-
-pub settings_apart : (a b : List ℕ) → blank_and a ≡ blank_and b → a ≡ b
-settings_apart [] [] e = refl
-settings_apart [] (y ∷ ys) e = cc
-settings_apart (x ∷ xs) [] e = cc
-settings_apart (x ∷ xs) (y ∷ ys) e = cc
 
 optional_apart : (a b : Option (List ℕ)) → IfSome a IsName → IfSome b IsName → unwrap_or a [] ≡ unwrap_or b [] → a ≡ b
 optional_apart None None g h e = refl
@@ -297,13 +291,12 @@ module _ (known : List Card) where
   counted_repos = both_part (Count repos_line (limit_number Repos)) (λ n. Series n (NextRepo known) []) (line_of repos_line) (flat_map repo_pieces) (λ n. n ≤ limit_number Repos) (GoodOf (GoodRepo known)) length
       (count_part repos_line (limit_number Repos) repos_other) (series_part (NextRepo known) repo_pieces (GoodRepo known) (repo_part known))
 
-  good_repos : (repos : List Repo) → GoodRepos known repos → Unit {0} × GoodCounted repos
-  good_repos repos g = (tt, (g.0, (refl, g.1)))
+  good_repos : (repos : List Repo) → GoodRepos known repos → GoodCounted repos
+  good_repos repos g = (g.0, (refl, g.1))
 
   pub repos_part : IsPart (ReposPart known) repos_pieces (GoodRepos known)
   unfolding ReposPart repos_pieces
-  repos_part = part_when (ReposPart known) repos_pieces _ (GoodRepos known) good_repos
-      (both_part (Line {A = Unit {0}} (λ u. codes "mirrors 0") Any) (λ u. ReposSeries) (λ u. alone (codes "mirrors 0") ∷ []) repos_of Any (λ u. GoodCounted) (λ xs. tt) (fixed_part (codes "mirrors 0") refl) (λ u. counted_repos))
+  repos_part = part_when (ReposPart known) repos_pieces _ (GoodRepos known) good_repos counted_repos
 
   counted_repos_told : IdsApart known → IsTold ReposSeries repos_of GoodCounted
   counted_repos_told apart = both_told (Count repos_line (limit_number Repos)) (λ n. Series n (NextRepo known) []) (line_of repos_line) (flat_map repo_pieces) (λ n. n ≤ limit_number Repos) (GoodOf (GoodRepo known)) length
@@ -312,36 +305,16 @@ module _ (known : List Card) where
 
   pub repos_told : IdsApart known → IsTold (ReposPart known) repos_pieces (GoodRepos known)
   unfolding ReposPart repos_pieces
-  repos_told apart K repos more g p =
-      both_told (Line {A = Unit {0}} (λ u. codes "mirrors 0") Any) (λ u. ReposSeries) (λ u. alone (codes "mirrors 0") ∷ []) repos_of Any (λ u. GoodCounted) (λ xs. tt) (fixed_part (codes "mirrors 0") refl) (λ u. counted_repos)
-      (fixed_told (codes "mirrors 0")) (λ u. counted_repos_told apart) K repos more (good_repos repos g) p
+  repos_told apart K repos more g p = counted_repos_told apart K repos more (good_repos repos g) p
 
   -- ---- the end
-  abbrev pub EndLine : (Unit {0} → List Piece → Type 0) → List Piece → Type 0
-  EndLine = Line (λ u. codes "end") (λ u. IsWithinLimits known)
-
-  abbrev pub FromPublications : (Unit {0} → List Piece → Type 0) → List Piece → Type 0
-  FromPublications K = Line {A = Unit {0}} (λ u. codes "publications 0") Any (λ u. EndLine K)
-
-  pub end_part : IsPart EndLine (λ u. alone (codes "end") ∷ []) (λ u. IsWithinLimits known)
-  end_part = line_part (λ u. codes "end") (λ u. IsWithinLimits known) (λ u g. refl)
-
-  pub end_told : IsTold EndLine (λ u. alone (codes "end") ∷ []) (λ u. IsWithinLimits known)
-  end_told = line_told (λ u. codes "end") (λ u. IsWithinLimits known) (λ a b g h e. refl)
-
-  pub publications_part : IsPart FromPublications (λ u. alone (codes "publications 0") ∷ alone (codes "end") ∷ []) (λ u. Unit {0} × IsWithinLimits known)
-  publications_part = both_part (Line {A = Unit {0}} (λ u. codes "publications 0") Any) (λ u. EndLine) (λ u. alone (codes "publications 0") ∷ []) (λ u. alone (codes "end") ∷ []) Any (λ u v. IsWithinLimits known) (λ u. tt) (fixed_part (codes "publications 0") refl) (λ u. end_part)
-
-  pub publications_told : IsTold FromPublications (λ u. alone (codes "publications 0") ∷ alone (codes "end") ∷ []) (λ u. Unit {0} × IsWithinLimits known)
-  publications_told = both_told (Line {A = Unit {0}} (λ u. codes "publications 0") Any) (λ u. EndLine) (λ u. alone (codes "publications 0") ∷ []) (λ u. alone (codes "end") ∷ []) Any (λ u v. IsWithinLimits known) (λ u. tt) (fixed_part (codes "publications 0") refl) (λ u. end_part) (fixed_told (codes "publications 0")) (λ u. end_told)
-
   pub last_part : IsPart (LastPart known) (λ u. last_pieces) (λ u. IsWithinLimits known)
   unfolding LastPart last_pieces
-  last_part = part_when (LastPart known) (λ u. last_pieces) _ (λ u. IsWithinLimits known) (λ u g. (tt, g)) publications_part
+  last_part = line_part (λ u. codes "end") (λ u. IsWithinLimits known) (λ u g. refl)
 
   pub last_told : IsTold (LastPart known) (λ u. last_pieces) (λ u. IsWithinLimits known)
   unfolding LastPart last_pieces
-  last_told K u more g p = publications_told K u more (tt, g) p
+  last_told = line_told (λ u. codes "end") (λ u. IsWithinLimits known) (λ a b g h e. refl)
 
 -- ---- a snapshot, line by line
 abbrev pub frozen : List ℕ → List Card → Snapshot
@@ -402,67 +375,3 @@ module _ (known : List Card) where
       both_told (Count snapshots_line (limit_number Snapshots)) (λ n. Series n (NextSnapshot known) []) (line_of snapshots_line) (flat_map snapshot_pieces) (λ n. n ≤ limit_number Snapshots) (GoodOf (GoodSnapshot known)) length
       (count_part snapshots_line (limit_number Snapshots) snapshots_other) (series_part (NextSnapshot known) snapshot_pieces (GoodSnapshot known) (snapshot_part known))
       (count_told (codes "snapshots ") (limit_number Snapshots) (omega arith)) (series_told (NextSnapshot known) snapshot_pieces (GoodSnapshot known) (snapshot_part known) (λ before. snapshot_told known before apart)) K snapshots more (good_snapshots snapshots g) p
-
--- ---- a root
-abbrev pub state_of : List Card → List Repo → List Snapshot → StateView
-state_of known repos snapshots = record empty { known = known; repos = repos; snapshots = snapshots }
-
-abbrev pub FromLast : List Card → List Repo → List Snapshot → (StateView → List Piece → Type 0) → List Piece → Type 0
-FromLast known repos snapshots K = LastPart known (λ u. K (state_of known repos snapshots))
-
-abbrev pub FromSnapshots : List Card → List Repo → (StateView → List Piece → Type 0) → List Piece → Type 0
-FromSnapshots known repos K = SnapshotsPart known (λ snapshots. FromLast known repos snapshots K)
-
-abbrev pub FromRepos : List Card → (StateView → List Piece → Type 0) → List Piece → Type 0
-FromRepos known K = ReposPart known (λ repos. FromSnapshots known repos K)
-
--- what stands behind each part
-abbrev pub behind_snapshots : StateView → List Piece
-behind_snapshots state = last_pieces
-
-abbrev pub behind_repos : StateView → List Piece
-behind_repos state = snapshots_pieces state.snapshots ++ behind_snapshots state
-
-abbrev pub behind_known : StateView → List Piece
-behind_known state = repos_pieces state.repos ++ behind_repos state
-
-abbrev pub GoodFromLast : List Card → List Repo → List Snapshot → StateView → Type 0
-GoodFromLast known repos snapshots state = IsWithinLimits known × (state_of known repos snapshots ≡ state)
-
-abbrev pub GoodFromSnapshots : List Card → List Repo → StateView → Type 0
-GoodFromSnapshots known repos state = GoodSnapshots known state.snapshots × GoodFromLast known repos state.snapshots state
-
-abbrev pub GoodFromRepos : List Card → StateView → Type 0
-GoodFromRepos known state = GoodRepos known state.repos × GoodFromSnapshots known state.repos state
-
-abbrev pub GoodState : StateView → Type 0
-GoodState state = GoodKnown state.known × GoodFromRepos state.known state
-
-pub from_last : (known : List Card) (repos : List Repo) (snapshots : List Snapshot) → IsPart (FromLast known repos snapshots) behind_snapshots (GoodFromLast known repos snapshots)
-from_last known repos snapshots = as_part (LastPart known) (λ u. last_pieces) (λ u. IsWithinLimits known) (λ u. state_of known repos snapshots) (λ state. tt) (last_part known)
-
-pub from_snapshots : (known : List Card) (repos : List Repo) → IsPart (FromSnapshots known repos) behind_repos (GoodFromSnapshots known repos)
-from_snapshots known repos = both_part (SnapshotsPart known) (FromLast known repos) snapshots_pieces behind_snapshots (GoodSnapshots known) (GoodFromLast known repos) (λ state. state.snapshots) (snapshots_part known) (from_last known repos)
-
-pub from_repos : (known : List Card) → IsPart (FromRepos known) behind_known (GoodFromRepos known)
-from_repos known = both_part (ReposPart known) (FromSnapshots known) repos_pieces behind_repos (GoodRepos known) (GoodFromSnapshots known) (λ state. state.repos) (repos_part known) (from_snapshots known)
-
-pub root_part : IsPart Root root_pieces GoodState
-unfolding Root root_pieces
-root_part = both_part KnownPart FromRepos known_pieces behind_known GoodKnown GoodFromRepos (λ state. state.known) known_part from_repos
-
-from_last_told : (known : List Card) (repos : List Repo) (snapshots : List Snapshot) → IsTold (FromLast known repos snapshots) behind_snapshots (GoodFromLast known repos snapshots)
-from_last_told known repos snapshots = as_told (LastPart known) (λ u. last_pieces) (λ u. IsWithinLimits known) (λ u. state_of known repos snapshots) (λ state. tt) (last_part known) (last_told known)
-
-from_snapshots_told : (known : List Card) → IdsApart known → (repos : List Repo) → IsTold (FromSnapshots known repos) behind_repos (GoodFromSnapshots known repos)
-from_snapshots_told known apart repos = both_told (SnapshotsPart known) (FromLast known repos) snapshots_pieces behind_snapshots (GoodSnapshots known) (GoodFromLast known repos) (λ state. state.snapshots) (snapshots_part known) (from_last known repos) (snapshots_told known apart) (from_last_told known repos)
-
-from_repos_told : (known : List Card) → IdsApart known → IsTold (FromRepos known) behind_known (GoodFromRepos known)
-from_repos_told known apart = both_told (ReposPart known) (FromSnapshots known) repos_pieces behind_repos (GoodRepos known) (GoodFromSnapshots known) (λ state. state.repos) (repos_part known) (from_snapshots known) (repos_told known apart) (from_snapshots_told known apart)
-
-pub root_told : (K : StateView → List Piece → Type 0) (state : StateView) (more : List Piece) → IdsApart state.known → GoodState state → Root K (root_pieces state ++ more) → K state more
-unfolding Root root_pieces
-root_told K state more apart g p =
-    from_repos_told state.known apart K state more g.1
-    (known_told (λ known. FromRepos known K) state.known (behind_known state ++ more) g.0
-    (subst (Root K) (append_assoc (known_pieces state.known) (behind_known state) more) p))

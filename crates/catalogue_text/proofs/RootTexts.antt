@@ -19,25 +19,26 @@ use Rattle.machine_state.specs.declared.repo.Repo.{Repo}
 use Rattle.machine_state.specs.declared.snapshot.Snapshot.{Snapshot}
 use Rattle.machine_state.specs.Ascending as names
 use Rattle.machine_state.specs.Limits.{limit_number}
-use Rattle.machine_state.specs.State.{IsRepo, IsSnapshot, IsNamedList, IsKnown, Valid, repo_name, repo_cmp, snapshot_name, snapshot_cmp, text_length}
+use Rattle.machine_state.specs.State.{IsRepo, IsSnapshot, AreRepos, AreSnapshots, IsNamedList, IsKnown, Valid, repo_name, repo_cmp, snapshot_name, snapshot_cmp}
 use Rattle.machine_state.specs.Values.{StateView}
-use Rattle.machine_state.proofs.ValidLemmas.{valid_plain}
-use Rattle.catalogue_text.specs.Lines.{IsPlain, is_ended, line_ends}
+use Rattle.catalogue_text.specs.Lines.{is_ended, line_ends}
 use Rattle.catalogue_text.specs.Pieces.{Piece, alone, packed, package_line, piece_text, Begins, Takes}
-use Rattle.catalogue_text.specs.Root.{id_of, joined, set_pieces, repo_pieces, known_pieces, repos_pieces, snapshot_pieces, snapshots_pieces, last_pieces, root_pieces, root_text}
-use Rattle.catalogue_text.specs.Grammar.{Ends, KnownPart, Root, CanStand, IsWithinLimits, MayJoin}
+use Rattle.catalogue_text.specs.Root.{id_of, joined, repo_pieces, known_pieces, mirrors_pieces, repos_pieces, snapshot_pieces, snapshots_pieces, publications_pieces, last_pieces, root_pieces, root_text}
+use Rattle.catalogue_text.specs.Grammar.{Ends, KnownPart, Root, CanStand}
 use Rattle.catalogue_text.specs.Faults.{IsWithin, TextsApart, IsFirstBadLine}
-use Rattle.catalogue_text.specs.Reading.{Stops, StopsRoot, Never, Always, Each, GoodSet, GoodRepo, GoodSnapshot, GoodKnown, GoodRepos, GoodSnapshots, IdsApart}
+use Rattle.catalogue_text.specs.Reading.{Stops, StopsRoot, Never, Always, Each, GoodRepo, GoodSnapshot, GoodRepos, GoodSnapshots, IdsApart}
 use Rattle.catalogue_text.proofs.Parts.{Others}
-use Rattle.catalogue_text.proofs.PlainLemmas.{known_plain, repos_plain, set_plain, repo_name_plain, comment_plain, distribution_plain, component_plain, snapshots_plain, snapshot_plain, id_plain}
-use Rattle.catalogue_text.proofs.RootParts.{GoodState, state_of, behind_known, behind_repos, known_part, known_told, root_part, root_told}
+use Rattle.catalogue_text.proofs.PlainLemmas.{known_plain, repos_plain, repo_name_plain, comment_plain, distribution_plain, component_plain, snapshots_plain, snapshot_plain}
+use Rattle.catalogue_text.proofs.RootParts.{known_part, known_told}
+use Rattle.catalogue_text.proofs.MirrorValid.{good_mirrors, valid_mirrors, mirrors_are, mirrors_short}
+use Rattle.catalogue_text.proofs.PublicationText.{publications_lines, lines_are, lines_short}
+use Rattle.catalogue_text.proofs.PublicationValid.{good_publications, valid_publications, sources_there}
+use Rattle.catalogue_text.proofs.SetPieces.{good_set, named_list, ArePieces, pieces_both, takes_joined, known_are, set_are, shorts_both, shorts_known, set_short}
+use Rattle.catalogue_text.proofs.WholeRoot.{GoodState, behind_known, behind_mirrors, behind_repos, behind_snapshots, root_part, root_told}
 use Rattle.catalogue_text.proofs.TakesLemmas.{Shorts, takes_short, takes_unique, GoesOn, nothing_begins, ended_text, joined_ended}
-use Rattle.catalogue_text.proofs.ValidLemmas.{all_cons, all_tail, all_none, each_less, sorted_each, apart_each, each_join, all_known, names_before, names_each}
+use Rattle.catalogue_text.proofs.ValidLemmas.{all_cons, all_tail, all_none, each_less, sorted_each, names_before, names_each}
 
 -- ---- a valid state is good
-good_set : (known list : List Card) → IsNamedList known list → GoodSet known list
-good_set known list n = (n.few, each_join known [] list n.listed n.sorted n.apart)
-
 each_repo : (known : List Card) (done xs : List Repo) → All IsRepo xs → All (λ repo. IsNamedList known repo.list) xs → names.IsAscending repo_cmp (done ++ xs) → Each (GoodRepo known) done xs
 each_repo known done [] r l a = tt
 each_repo known done (x ∷ xs) r l a = (
@@ -62,31 +63,26 @@ pub good_state : (state : StateView) → Valid state → GoodState state
 good_state state v = (
   (v.known.few, each_less [] state.known v.known.sorted),
   (
-    (v.repos.few, each_repo state.known [] state.repos v.repos.each v.repos.lists v.repos.sorted),
+    good_mirrors state.known state.mirrors v.mirrors,
     (
-      (v.snapshots.few, each_snapshot state.known [] state.snapshots v.snapshots.each v.snapshots.lists v.snapshots.sorted),
-      (record { files = v.known.files; texts = v.known.texts }, λ i. record state { mirrors = sym v.stored.mirrors i; publications = sym v.stored.publications i }),
+      (v.repos.few, each_repo state.known [] state.repos v.repos.each v.repos.lists v.repos.sorted),
+      (
+        (v.snapshots.few, each_snapshot state.known [] state.snapshots v.snapshots.each v.snapshots.lists v.snapshots.sorted),
+        (good_publications state v, (record { files = v.known.files; texts = v.known.texts }, refl)),
+      ),
     ),
   ),
 )
 
 -- ---- what is good is valid
 module _ (known : List Card) where
-  named_list : (list : List Card) → GoodSet known list → IsNamedList known list
-  named_list list g = record {
-    sorted = sorted_each (MayJoin known) (λ done x m. m.after) [] list tt g.1;
-    apart = apart_each known [] list refl g.1;
-    listed = all_known known [] list g.1;
-    few = g.0;
-  }
-
   all_repos : (done xs : List Repo) → Each (GoodRepo known) done xs → All IsRepo xs
   all_repos done [] e = all_none IsRepo
   all_repos done (x ∷ xs) e = all_cons IsRepo x xs (record { name = e.0.name.0; comment = e.0.comment; distribution = e.0.distribution; component = e.0.component }) (all_repos (done ++ x ∷ []) xs e.1)
 
   repo_lists : (done xs : List Repo) → Each (GoodRepo known) done xs → All (λ repo. IsNamedList known repo.list) xs
   repo_lists done [] e = all_none (λ repo. IsNamedList known repo.list)
-  repo_lists done (x ∷ xs) e = all_cons (λ repo. IsNamedList known repo.list) x xs (named_list x.list e.0.list) (repo_lists (done ++ x ∷ []) xs e.1)
+  repo_lists done (x ∷ xs) e = all_cons (λ repo. IsNamedList known repo.list) x xs (named_list known x.list e.0.list) (repo_lists (done ++ x ∷ []) xs e.1)
 
   all_snapshots : (done xs : List Snapshot) → Each (GoodSnapshot known) done xs → All IsSnapshot xs
   all_snapshots done [] e = all_none IsSnapshot
@@ -94,55 +90,41 @@ module _ (known : List Card) where
 
   snapshot_lists : (done xs : List Snapshot) → Each (GoodSnapshot known) done xs → All (λ snapshot. IsNamedList known snapshot.list) xs
   snapshot_lists done [] e = all_none (λ snapshot. IsNamedList known snapshot.list)
-  snapshot_lists done (x ∷ xs) e = all_cons (λ snapshot. IsNamedList known snapshot.list) x xs (named_list x.list e.0.list) (snapshot_lists (done ++ x ∷ []) xs e.1)
+  snapshot_lists done (x ∷ xs) e = all_cons (λ snapshot. IsNamedList known snapshot.list) x xs (named_list known x.list e.0.list) (snapshot_lists (done ++ x ∷ []) xs e.1)
 
-pub valid_state : (known : List Card) (repos : List Repo) (snapshots : List Snapshot) → All IsWhole known → GoodKnown known → GoodRepos known repos → GoodSnapshots known snapshots → IsWithinLimits known → Valid (state_of known repos snapshots)
-valid_state known repos snapshots w k r f l = valid_plain known repos snapshots (record {
-  packages = w;
-  sorted = sorted_each (AllLess package_cmp) (λ done x h. h) [] known tt k.1;
-  few = k.0;
-  files = l.files;
-  texts = l.texts;
-}) (record {
+pub valid_repos : (known : List Card) (repos : List Repo) → GoodRepos known repos → AreRepos known repos
+valid_repos known repos r = record {
   each = all_repos known [] repos r.1;
   lists = repo_lists known [] repos r.1;
   sorted = names_each repo_name (GoodRepo known) (λ done x g. g.name.1) [] repos tt r.1;
   few = r.0;
-}) (record {
+}
+
+pub valid_snapshots : (known : List Card) (snapshots : List Snapshot) → GoodSnapshots known snapshots → AreSnapshots known snapshots
+valid_snapshots known snapshots f = record {
   each = all_snapshots known [] snapshots f.1;
   lists = snapshot_lists known [] snapshots f.1;
   sorted = names_each snapshot_name (GoodSnapshot known) (λ done x g. g.name.1) [] snapshots tt f.1;
   few = f.0;
-})
+}
+
+pub valid_state : (state : StateView) → All IsWhole state.known → GoodState state → Valid state
+valid_state state w g = record {
+  known = record {
+    packages = w;
+    sorted = sorted_each (AllLess package_cmp) (λ done x h. h) [] state.known tt g.0.1;
+    few = g.0.0;
+    files = g.1.1.1.1.1.0.files;
+    texts = g.1.1.1.1.1.0.texts;
+  };
+  mirrors = valid_mirrors state.known state.mirrors g.1.0;
+  repos = valid_repos state.known state.repos g.1.1.0;
+  snapshots = valid_snapshots state.known state.snapshots g.1.1.1.0;
+  publications = valid_publications state.known state.repos state.snapshots state.publications g.1.1.1.1.0;
+  sources = sources_there state g.1.1.1.1.0;
+}
 
 -- ---- the pieces of a valid state are cut out of its text
-abbrev ArePieces : List Piece → Type 0
-ArePieces [] = Unit {0}
-ArePieces (alone l ∷ xs) = IsPlain l × ArePieces xs
-ArePieces (packed p ∷ xs) = IsWhole p × ArePieces xs
-
-pieces_both : (xs ys : List Piece) → ArePieces xs → ArePieces ys → ArePieces (xs ++ ys)
-pieces_both [] ys a b = b
-pieces_both (alone l ∷ xs) ys a b = (a.0, pieces_both xs ys a.1 b)
-pieces_both (packed p ∷ xs) ys a b = (a.0, pieces_both xs ys a.1 b)
-
-takes_joined : (xs : List Piece) → ArePieces xs → Takes (joined xs) xs []
-takes_joined [] a = refl
-takes_joined (alone l ∷ xs) a = (joined xs, record { plain = a.0; ended = inl (append_assoc l (10 ∷ []) (joined xs)) }, takes_joined xs a.1)
-takes_joined (packed p ∷ xs) a = (joined xs, (a.0, refl), takes_joined xs a.1)
-
-known_are : (ps : List Card) → All IsWhole ps → ArePieces (map packed ps)
-known_are [] w = tt
-known_are (p ∷ ps) w = (w 0 p (omega arith), known_are ps (all_tail IsWhole p ps w))
-
-ids_are : (ps : List Card) → ArePieces (map (λ p. alone (id_of p)) ps)
-ids_are [] = tt
-ids_are (p ∷ ps) = (id_plain p, ids_are ps)
-
-set_are : (list : List Card) → length list ≤ limit_number Packages → ArePieces (set_pieces list)
-unfolding set_pieces
-set_are list few = (set_plain (length list) (omega arith), ids_are list)
-
 repo_are : (repo : Repo) → IsRepo repo → length repo.list ≤ limit_number Packages → ArePieces (repo_pieces repo)
 unfolding repo_pieces
 repo_are repo g few = (repo_name_plain repo.name g.name, (comment_plain repo.comment g.comment, (distribution_plain repo.distribution g.distribution, (component_plain repo.component g.component, set_are repo.list few))))
@@ -163,8 +145,10 @@ root_are : (state : StateView) → Valid state → ArePieces (root_pieces state)
 unfolding root_pieces known_pieces repos_pieces snapshots_pieces last_pieces
 root_are state v =
     pieces_both (known_pieces state.known) (behind_known state) (refl, (known_plain (length state.known) (let f = v.known.few in omega arith), known_are state.known v.known.packages))
-    (pieces_both (repos_pieces state.repos) (behind_repos state) (refl, (repos_plain (length state.repos) (let f = v.repos.few in omega arith), repos_are state.known state.repos v.repos.each v.repos.lists))
-    (pieces_both (snapshots_pieces state.snapshots) last_pieces (snapshots_plain (length state.snapshots) (let f = v.snapshots.few in omega arith), snapshots_are state.known state.snapshots v.snapshots.each v.snapshots.lists) (refl, (refl, tt))))
+    (pieces_both (mirrors_pieces state.mirrors) (behind_mirrors state) (mirrors_are state.known state.mirrors v.mirrors)
+    (pieces_both (repos_pieces state.repos) (behind_repos state) (repos_plain (length state.repos) (let f = v.repos.few in omega arith), repos_are state.known state.repos v.repos.each v.repos.lists)
+    (pieces_both (snapshots_pieces state.snapshots) (behind_snapshots state) (snapshots_plain (length state.snapshots) (let f = v.snapshots.few in omega arith), snapshots_are state.known state.snapshots v.snapshots.each v.snapshots.lists)
+    (pieces_both (publications_pieces state.publications) last_pieces (lines_are (publications_pieces state.publications) (publications_lines state.known state.repos state.snapshots state.publications (good_publications state v))) (refl, tt)))))
 
 pub takes_root : (state : StateView) → Valid state → Takes (root_text state) (root_pieces state) []
 unfolding root_text
@@ -179,30 +163,17 @@ unfolding root_text
 text_is_root text state t e = ended_text (root_pieces state) text t e
 
 -- ---- their texts are short
-shorts_alone : (f : Card → List ℕ) (ps : List Card) → Shorts (map (λ p. alone (f p)) ps)
-shorts_alone f [] = tt
-shorts_alone f (p ∷ ps) = shorts_alone f ps
-
-shorts_both : (xs ys : List Piece) → Shorts xs → Shorts ys → Shorts (xs ++ ys)
-shorts_both [] ys a b = b
-shorts_both (alone l ∷ xs) ys a b = shorts_both xs ys a b
-shorts_both (packed p ∷ xs) ys a b = (a.0, shorts_both xs ys a.1 b)
-
-shorts_known : (ps : List Card) → text_length ps < 2 ^ 64 → Shorts (map packed ps)
-shorts_known [] h = tt
-shorts_known (p ∷ ps) h = (omega arith, shorts_known ps (omega arith))
-
 repo_short : (repo : Repo) → Shorts (repo_pieces repo)
-unfolding repo_pieces set_pieces
-repo_short repo = shorts_alone id_of repo.list
+unfolding repo_pieces
+repo_short repo = set_short repo.list
 
 shorts_repos : (repos : List Repo) → Shorts (flat_map repo_pieces repos)
 shorts_repos [] = tt
 shorts_repos (x ∷ xs) = shorts_both (repo_pieces x) (flat_map repo_pieces xs) (repo_short x) (shorts_repos xs)
 
 snapshot_short : (snapshot : Snapshot) → Shorts (snapshot_pieces snapshot)
-unfolding snapshot_pieces set_pieces
-snapshot_short snapshot = shorts_alone id_of snapshot.list
+unfolding snapshot_pieces
+snapshot_short snapshot = set_short snapshot.list
 
 shorts_snapshots : (snapshots : List Snapshot) → Shorts (flat_map snapshot_pieces snapshots)
 shorts_snapshots [] = tt
@@ -212,8 +183,10 @@ root_short : (state : StateView) → Valid state → Shorts (root_pieces state)
 unfolding root_pieces known_pieces repos_pieces snapshots_pieces last_pieces
 root_short state v =
     shorts_both (known_pieces state.known) (behind_known state) (shorts_known state.known (let t = v.known.texts in omega arith))
+    (shorts_both (mirrors_pieces state.mirrors) (behind_mirrors state) (mirrors_short state.mirrors)
     (shorts_both (repos_pieces state.repos) (behind_repos state) (shorts_repos state.repos)
-    (shorts_both (snapshots_pieces state.snapshots) last_pieces (shorts_snapshots state.snapshots) tt))
+    (shorts_both (snapshots_pieces state.snapshots) (behind_snapshots state) (shorts_snapshots state.snapshots)
+    (shorts_both (publications_pieces state.publications) last_pieces (lines_short (publications_pieces state.publications) (publications_lines state.known state.repos state.snapshots state.publications (good_publications state v))) tt))))
 
 -- ---- whole packages, and ids that are apart
 wholes : (ps : List Card) (text rest : List ℕ) → Takes text (map packed ps) rest → All IsWhole ps

@@ -145,7 +145,7 @@ module _ {X : Type 0} (name_of : X → List ℕ) where
   below_push r x [] b h = (h, tt)
   below_push r x (s ∷ rs) b h = (b.0, below_push r x rs b.1 h)
 
-  names_push : (done : List X) (x : X) → names.IsAscending (named_cmp name_of) done → NamesBefore done (name_of x) → names.IsAscending (named_cmp name_of) (done ++ x ∷ [])
+  pub names_push : (done : List X) (x : X) → names.IsAscending (named_cmp name_of) done → NamesBefore done (name_of x) → names.IsAscending (named_cmp name_of) (done ++ x ∷ [])
   names_push [] x a h = (tt, tt)
   names_push (r ∷ rs) x a h = (below_push r x rs a.0 (h 0 r (omega arith)), names_push rs x a.1 (all_tail (λ y. name_cmp name_of y (name_of x) ≡ Less) r rs h))
 

@@ -1,20 +1,19 @@
 -- Lines that give one value each.
-use Rattle.std.proofs.Common.{rules, ◌≡◌, ℕ, zero, suc, ◌<◌, ◌^◌, true, false, not, codes, ◌∙◌, List, [], ◌∷◌, ◌++◌, Bool, get_or, Option, Some, None, Result, Ok, Err, IsTrue, IsFalse, refl, sym, ap, subst, arith}
+use Rattle.std.proofs.Common.{rules, ◌≡◌, ℕ, zero, suc, ◌<◌, ◌^◌, true, false, ◌∙◌, List, [], ◌∷◌, ◌++◌, Bool, get_or, Option, Some, None, IsTrue, IsFalse, refl, sym, ap, subst, arith}
 use Rattle.std.specs.List.{list_all}
 use Rattle.std.specs.Str.{IsUtf8, bytes_eq}
 use Rattle.std.proofs.lemmas.Slice.Eq.{bytes_eq-Decides}
-use Rattle.std.specs.Str.Parse.{ParsesUnsigned}
 use Rattle.std.specs.Fmt.{decimal}
 use Rattle.std.specs.Option.{MatchOption}
 use Rattle.std.proofs.lemmas.Bool.{and_parts, false_from_ne_true, true≢false}
 use Rattle.std.proofs.lemmas.Bool.Decides.{nat_tests}
-use Rattle.std.proofs.lemmas.Fmt.{parse-decimal, IsAscii-decimal}
+use Rattle.std.proofs.lemmas.Fmt.{IsAscii-decimal}
 use Rattle.std.proofs.lemmas.List.{append_cancel_left}
 use Rattle.std.proofs.lemmas.Str.{IsUtf8-from_ascii}
 use Rattle.ap_text.specs.Names.{is_name, is_name_byte, is_component}
 use Rattle.catalogue_text.specs.Lines.{IsLine}
+use Rattle.catalogue_text.specs.MirrorLines.{blank_and}
 use Rattle.catalogue_text.specs.Reading.{NoLine}
-use Rattle.catalogue_text.specs.Grammar.{IsName}
 use Rattle.catalogue_text.proofs.LineLemmas.{line_unique}
 
 name_byte_small : (b : ℕ) → is_name_byte b ≡ true → b < 128
@@ -36,9 +35,9 @@ no_name bs h = false_from_ne_true (is_name bs) (λ e. h (name_utf8 bs e))
 pub component_name : (name : List ℕ) → is_component name ≡ true → is_name name ≡ true
 component_name name e = (and_parts (is_name name) _ e).0
 
-pub not_name : (found : Option (List ℕ)) (written a : List ℕ) → MatchOption found (IsFalse (is_name written)) (λ n. (n ≡ written) × IsTrue (is_name n)) → found ≡ None → IsName a → written ≡ a → ⊥
-not_name None written a h e g same = let t : is_name written ≡ is_name a = ap is_name same in cc
-not_name (Some n) written a h e g same = cc
+pub not_value : (is : List ℕ → Bool) (found : Option (List ℕ)) (written a : List ℕ) → MatchOption found (IsFalse (is written)) (λ n. (n ≡ written) × IsTrue (is n)) → found ≡ None → IsTrue (is a) → written ≡ a → ⊥
+not_value is None written a h e g same = let t : is written ≡ is a = ap is same in cc
+not_value is (Some n) written a h e g same = cc
 
 -- the line has the key, and behind it no good value
 pub no_value : {A : Type 0} (f : A → List ℕ) (Good : A → Type 0) (text key written rest : List ℕ) → IsLine text (key ++ written) rest → ((a : A) → Good a → written ≡ f a → ⊥) → NoLine (λ a. key ++ f a) Good text
@@ -73,3 +72,10 @@ at_default (Some x) P Q h n = absurd (n x refl)
 
 pub no_component : (a name : List ℕ) (is : Bool) → is_component a ≡ true → name ≡ a → is ≡ is_component name → is ≡ false → ⊥
 no_component a name is g e told not_is = true≢false (sym g ∙ ap is_component (sym e) ∙ sym told ∙ not_is)
+
+-- a setting tells its text
+pub settings_apart : (a b : List ℕ) → blank_and a ≡ blank_and b → a ≡ b
+settings_apart [] [] e = refl
+settings_apart [] (y ∷ ys) e = cc
+settings_apart (x ∷ xs) [] e = cc
+settings_apart (x ∷ xs) (y ∷ ys) e = cc

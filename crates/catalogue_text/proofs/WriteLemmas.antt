@@ -7,7 +7,7 @@ use Rattle.std.proofs.lemmas.List.Concat.{flat_map-append}
 use Rattle.package_core.specs.Card.{Card}
 use Rattle.machine_state.specs.Values.{StateView}
 use Rattle.catalogue_text.specs.Pieces.{Piece, piece_text}
-use Rattle.catalogue_text.specs.Root.{joined, known_pieces, repos_pieces, snapshots_pieces, last_pieces, root_pieces, root_text}
+use Rattle.catalogue_text.specs.Root.{joined, known_pieces, mirrors_pieces, repos_pieces, snapshots_pieces, publications_pieces, last_pieces, root_pieces, root_text}
 
 take_more : (xs : List Card) (i : ℕ) (p : Card) → slice_get xs i ≡ Some p → take (i + 1) xs ≡ take i xs ++ p ∷ []
 take_more [] i p e = cc
@@ -49,17 +49,23 @@ then_two o x y z a b c e f g = then_one x y z b c f g ∙ ap (λ t. t ++ (b ++ c
 pub then_four : (o v w x y z a b c d k : List ℕ) → v ≡ o ++ a → w ≡ v ++ b → x ≡ w ++ c → y ≡ x ++ d → z ≡ y ++ k → z ≡ o ++ (a ++ (b ++ (c ++ (d ++ k))))
 then_four o v w x y z a b c d k e f g h i = then_two w x y z c d k g h i ∙ ap (λ t. t ++ (c ++ (d ++ k))) (f ∙ ap (λ t. t ++ b) e ∙ append_assoc o a b) ∙ append_assoc o (a ++ b) (c ++ (d ++ k)) ∙ ap (λ t. o ++ t) (append_assoc a b (c ++ (d ++ k)))
 
-then_three : (o w x y z a b c d : List ℕ) → w ≡ o ++ a → x ≡ w ++ b → y ≡ x ++ c → z ≡ y ++ d → z ≡ o ++ (a ++ (b ++ (c ++ d)))
-then_three o w x y z a b c d e f g h = then_two w x y z b c d f g h ∙ ap (λ t. t ++ (b ++ (c ++ d))) e ∙ append_assoc o a (b ++ (c ++ d))
+pub join_four : (p q r s : List Piece) → joined (p ++ (q ++ (r ++ s))) ≡ joined p ++ (joined q ++ (joined r ++ joined s))
+join_four p q r s =
+    flat_map-append piece_text p (q ++ (r ++ s)) ∙ ap (λ t. joined p ++ t) (flat_map-append piece_text q (r ++ s) ∙ ap (λ t. joined q ++ t) (flat_map-append piece_text r s))
 
-root_joined : (state : StateView) → root_text state ≡ joined (known_pieces state.known) ++ (joined (repos_pieces state.repos) ++ (joined (snapshots_pieces state.snapshots) ++ joined last_pieces))
+-- ---- the whole root
+root_joined : (state : StateView) → root_text state ≡ joined (known_pieces state.known) ++ (joined (mirrors_pieces state.mirrors) ++ (joined (repos_pieces state.repos) ++ (joined (snapshots_pieces state.snapshots) ++ (joined (publications_pieces state.publications) ++ joined last_pieces))))
 unfolding root_text root_pieces
 root_joined state =
-    flat_map-append piece_text (known_pieces state.known) (repos_pieces state.repos ++ (snapshots_pieces state.snapshots ++ last_pieces))
-    ∙ ap (λ t. joined (known_pieces state.known) ++ t) (flat_map-append piece_text (repos_pieces state.repos) (snapshots_pieces state.snapshots ++ last_pieces)
-    ∙ ap (λ t. joined (repos_pieces state.repos) ++ t) (flat_map-append piece_text (snapshots_pieces state.snapshots) last_pieces))
+    let publications = flat_map-append piece_text (publications_pieces state.publications) last_pieces in
+    let snapshots = flat_map-append piece_text (snapshots_pieces state.snapshots) (publications_pieces state.publications ++ last_pieces) ∙ ap (λ t. joined (snapshots_pieces state.snapshots) ++ t) publications in
+    let repos = flat_map-append piece_text (repos_pieces state.repos) (snapshots_pieces state.snapshots ++ (publications_pieces state.publications ++ last_pieces)) ∙ ap (λ t. joined (repos_pieces state.repos) ++ t) snapshots in
+    let mirrors = flat_map-append piece_text (mirrors_pieces state.mirrors) (repos_pieces state.repos ++ (snapshots_pieces state.snapshots ++ (publications_pieces state.publications ++ last_pieces))) ∙ ap (λ t. joined (mirrors_pieces state.mirrors) ++ t) repos in
+    flat_map-append piece_text (known_pieces state.known) (mirrors_pieces state.mirrors ++ (repos_pieces state.repos ++ (snapshots_pieces state.snapshots ++ (publications_pieces state.publications ++ last_pieces)))) ∙ ap (λ t. joined (known_pieces state.known) ++ t) mirrors
 
-pub whole_text : (state : StateView) (o w x y z : List ℕ) → o ≡ [] → w ≡ o ++ joined (known_pieces state.known) → x ≡ w ++ joined (repos_pieces state.repos) → y ≡ x ++ joined (snapshots_pieces state.snapshots) → z ≡ y ++ joined last_pieces → z ≡ root_text state
-whole_text state o w x y z n e f g h =
-    then_three o w x y z _ _ _ _ e f g h
-    ∙ ap (λ t. t ++ (joined (known_pieces state.known) ++ (joined (repos_pieces state.repos) ++ (joined (snapshots_pieces state.snapshots) ++ joined last_pieces)))) n ∙ sym (root_joined state)
+pub whole_text : (state : StateView) (o u v w x y z : List ℕ) → o ≡ [] → u ≡ o ++ joined (known_pieces state.known) → v ≡ u ++ joined (mirrors_pieces state.mirrors) → w ≡ v ++ joined (repos_pieces state.repos) → x ≡ w ++ joined (snapshots_pieces state.snapshots)
+    → y ≡ x ++ joined (publications_pieces state.publications) → z ≡ y ++ joined last_pieces → z ≡ root_text state
+whole_text state o u v w x y z n e f g h i j =
+    then_four u v w x y z _ _ _ _ _ f g h i j
+    ∙ ap (λ t. t ++ (joined (mirrors_pieces state.mirrors) ++ (joined (repos_pieces state.repos) ++ (joined (snapshots_pieces state.snapshots) ++ (joined (publications_pieces state.publications) ++ joined last_pieces))))) (e ∙ ap (λ t. t ++ joined (known_pieces state.known)) n)
+    ∙ sym (root_joined state)

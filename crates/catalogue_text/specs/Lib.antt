@@ -1,6 +1,15 @@
 pub mod Lines
 pub mod Pieces
+pub mod SetLines
+pub mod PartForms
+pub mod NameLines
+pub mod MirrorLines
+pub mod PublicationLines
 pub mod Root
+pub mod PublicationGrammar
 pub mod Grammar
 pub mod Faults
 pub mod Reading
+pub mod MirrorReading
+pub mod PublicationReading
+pub mod Places

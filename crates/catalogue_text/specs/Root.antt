@@ -1,23 +1,17 @@
 -- The root text: a state as the pieces that stand for it in a store.
-use Rattle.std.specs.Prelude.{ℕ, List, [], ◌∷◌, ◌++◌, length, map, codes, Option, unwrap_or}
+use Rattle.std.specs.Prelude.{ℕ, List, [], ◌∷◌, ◌++◌, length, map, codes, true, false, Option, Some, None, unwrap_or}
 use Rattle.std.specs.List.{flat_map}
 use Rattle.std.specs.Fmt.{decimal}
-use Rattle.hex.specs.Hex.{encode_lower}
-use Rattle.sha2.specs.Sha256.{sha256}
-use Rattle.package_core.specs.Card.{Card, package_text}
+use Rattle.package_core.specs.Card.{Card}
 use Rattle.machine_state.specs.declared.repo.Repo.{Repo}
 use Rattle.machine_state.specs.declared.snapshot.Snapshot.{Snapshot}
-use Rattle.machine_state.specs.Values.{StateView}
+use Rattle.machine_state.specs.declared.fetched.Fetched.{Fetched}
+use Rattle.machine_state.specs.Values.{MirrorView, StateView}
 use Rattle.catalogue_text.specs.Pieces.{Piece, alone, packed, piece_text}
-
--- a blank and the text, where there is a text
-abbrev pub blank_and : List ℕ → List ℕ
-blank_and [] = []
-blank_and (b ∷ bs) = 32 ∷ b ∷ bs
-
--- the id of a package: the SHA-256 (FIPS 180-4) of its text, in lower case
-unfoldable pub id_of : Card → List ℕ
-id_of p = encode_lower (sha256 (package_text p))
+use Rattle.catalogue_text.specs.MirrorLines.{mirror_line, archive_line, place_line, components_line, architectures_line, filter_line, deps_line, mirrors_line, updated_line, date_line}
+pub use Rattle.catalogue_text.specs.MirrorLines.{blank_and}
+unfoldable pub use Rattle.catalogue_text.specs.SetLines.{id_of, set_line, set_pieces}
+unfoldable pub use Rattle.catalogue_text.specs.PublicationLines.{publications_pieces}
 
 abbrev pub known_line : ℕ → List ℕ
 known_line count = codes "known " ++ decimal count
@@ -43,13 +37,6 @@ snapshots_line count = codes "snapshots " ++ decimal count
 abbrev pub snapshot_line : List ℕ → List ℕ
 snapshot_line name = codes "snapshot " ++ name
 
-abbrev pub set_line : ℕ → List ℕ
-set_line count = codes "set " ++ decimal count
-
--- a list of packages: how many they are, and the id of each
-unfoldable pub set_pieces : List Card → List Piece
-set_pieces list = alone (set_line (length list)) ∷ map (λ p. alone (id_of p)) list
-
 -- a repository: its settings and its list
 unfoldable pub repo_pieces : Repo → List Piece
 repo_pieces repo =
@@ -60,9 +47,25 @@ repo_pieces repo =
 unfoldable pub known_pieces : List Card → List Piece
 known_pieces known = alone (codes "aptly root 0") ∷ alone (known_line (length known)) ∷ map packed known
 
--- no mirror, and the repositories: how many they are, and each of them
+-- what was fetched of an archive, where something was
+abbrev pub updated_pieces : Option Fetched → List Piece
+updated_pieces None = alone (updated_line false) ∷ []
+updated_pieces (Some fetched) = alone (updated_line true) ∷ alone (date_line fetched.date) ∷ set_pieces fetched.list
+
+-- a mirror: its settings, and what it fetched
+unfoldable pub mirror_pieces : MirrorView → List Piece
+mirror_pieces mirror =
+    alone (mirror_line mirror.name) ∷ alone (archive_line mirror.archive) ∷ alone (place_line mirror.distribution)
+    ∷ alone (components_line mirror.components) ∷ alone (architectures_line mirror.architectures) ∷ alone (filter_line mirror.filter)
+    ∷ alone (deps_line mirror.with_deps) ∷ updated_pieces mirror.updated
+
+-- the mirrors: how many they are, and each of them
+unfoldable pub mirrors_pieces : List MirrorView → List Piece
+mirrors_pieces mirrors = alone (mirrors_line (length mirrors)) ∷ flat_map mirror_pieces mirrors
+
+-- the repositories: how many they are, and each of them
 unfoldable pub repos_pieces : List Repo → List Piece
-repos_pieces repos = alone (codes "mirrors 0") ∷ alone (repos_line (length repos)) ∷ flat_map repo_pieces repos
+repos_pieces repos = alone (repos_line (length repos)) ∷ flat_map repo_pieces repos
 
 -- a snapshot: its name and its list
 unfoldable pub snapshot_pieces : Snapshot → List Piece
@@ -72,12 +75,14 @@ snapshot_pieces snapshot = alone (snapshot_line snapshot.name) ∷ set_pieces sn
 unfoldable pub snapshots_pieces : List Snapshot → List Piece
 snapshots_pieces snapshots = alone (snapshots_line (length snapshots)) ∷ flat_map snapshot_pieces snapshots
 
--- no publication, and the end
+-- the end
 unfoldable pub last_pieces : List Piece
-last_pieces = alone (codes "publications 0") ∷ alone (codes "end") ∷ []
+last_pieces = alone (codes "end") ∷ []
 
 unfoldable pub root_pieces : StateView → List Piece
-root_pieces state = known_pieces state.known ++ (repos_pieces state.repos ++ (snapshots_pieces state.snapshots ++ last_pieces))
+root_pieces state =
+    known_pieces state.known ++ (mirrors_pieces state.mirrors ++ (repos_pieces state.repos ++ (snapshots_pieces state.snapshots
+    ++ (publications_pieces state.publications ++ last_pieces))))
 
 -- the text of pieces one behind another
 abbrev pub joined : List Piece → List ℕ

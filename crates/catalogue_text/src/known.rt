@@ -106,7 +106,7 @@ fn less(room: Option<u64>, used: u64) -> Option<u64>
 }
 
 /// The id of a package, in lower case.
-#[tactic(auto, unfolding(crate::specs::Root::id_of))]
+#[tactic(auto, unfolding(crate::specs::SetLines::id_of))]
 pub(crate) fn id_text(alloc: Global, member: &SharedPackage) -> Result<String, AllocError>
     ensures { IfOk result (λ id. string_bytes id ≡ id_of member.now) }
 {

@@ -13,7 +13,7 @@ pub(crate) fn first_line(text: &[u8]) -> Option<(&[u8], &[u8])>
     if text.is_empty() {
         return None;
     }
-    let end = line_end(text);
+    let end = end_before(text, b'\n');
     let (line, rest) = text.split_at(end);
     match rest.split_first() {
         None => Some((line, rest)),
@@ -21,14 +21,14 @@ pub(crate) fn first_line(text: &[u8]) -> Option<(&[u8], &[u8])>
     }
 }
 
-/// The place of the first line end, or the length.
-fn line_end(text: &[u8]) -> usize
+/// The place of the first such byte, or the length.
+pub(crate) fn end_before(text: &[u8], stop: u8) -> usize
     ensures inside { result ≤ length text.now }
-    ensures front { list_any (λ b. b == 10) (take result text.now) ≡ false }
-    ensures at { result < length text.now → slice_index text.now result ≡ 10 }
+    ensures front { list_any (λ b. b == stop) (take result text.now) ≡ false }
+    ensures at { result < length text.now → slice_index text.now result ≡ stop }
 {
     for (i, b) in text.iter().enumerate() {
-        if *b == b'\n' {
+        if *b == stop {
             return i;
         }
     }
@@ -85,7 +85,7 @@ pub(crate) fn is_ended(text: &[u8]) -> bool
     }
 }
 
-fn line_ends(text: &[u8]) -> usize
+pub(crate) fn line_ends(text: &[u8]) -> usize
     ensures value { result ≡ line_ends_of text.now }
     ensures small { result ≤ length text.now }
 {

@@ -1,6 +1,6 @@
 //! A root text read back.
 ghost use Rattle.std.specs.Prelude.{◌≡◌, ◌↔◌, IsTrue, true, ◌<◌, ◌^◌, ℕ, [], List, length, IfOk, IfErr, MatchResult};
-ghost use Rattle.machine_state.specs.State.{Valid, empty};
+ghost use Rattle.machine_state.specs.State.{Valid};
 ghost use Rattle.catalogue_text.specs.Lines.{is_ended as ended};
 ghost use Rattle.catalogue_text.specs.Root.{root_text as root_of, last_pieces};
 ghost use Rattle.catalogue_text.specs.Grammar.{LastPart, IsWithinLimits};
@@ -10,10 +10,12 @@ ghost use Rattle.catalogue_text.specs.Reading.{IfBefore, Stops, StopsRoot, Reads
 use crate::fault::RootFault;
 use crate::known::{Known, read_known};
 use crate::lines::{after_line, is_ended, line_before};
+use crate::mirrors::read_mirrors;
+use crate::publications::read_publications;
 use crate::repos::read_repos;
 use crate::snapshots::read_snapshots;
 use crate::stop::Stop;
-use machine_state::{Repo, Snapshot, State};
+use machine_state::State;
 use std::alloc::Global;
 
 /// The text behind the end of a root that has these packages, or how many bytes are left where it stops.
@@ -21,16 +23,13 @@ fn read_last<'a>(text: &'a [u8], known: &Known) -> Result<&'a [u8], usize>
     requires { IsIndexed known.now }
     ensures { MatchResult result (λ rest. ReadsPart {A = Unit {0}} (λ u. last_pieces) (λ u. IsWithinLimits known.now.list) text.now tt rest.now) (Stops (LastPart known.now.list) text.now) }
 {
-    let Some(rest) = after_line(text, "publications 0") else {
+    let Some(behind) = after_line(text, "end") else {
         return Err(text.len());
-    };
-    let Some(behind) = after_line(rest, "end") else {
-        return Err(rest.len());
     };
     if known.is_within_limits() {
         Ok(behind)
     } else {
-        Err(rest.len())
+        Err(text.len())
     }
 }
 
@@ -39,17 +38,6 @@ fn is_at_end(text: &[u8], rest: &[u8]) -> bool
     ensures { IsTrue result ↔ ((rest.now ≡ []) × (ended text.now ≡ true)) }
 {
     rest.is_empty() && is_ended(text)
-}
-
-/// The state of these packages, repositories and snapshots, and nothing more.
-fn state_of(alloc: Global, known: Known, repos: Vec<Repo>, snapshots: Vec<Snapshot>) -> State
-    ensures { result ≡ record empty { known = known.list; repos = repos.items; snapshots = snapshots.items } }
-{
-    let mut state = State::empty(alloc);
-    state.known = known.list;
-    state.repos = repos;
-    state.snapshots = snapshots;
-    state
 }
 
 /// The state whose root text the bytes are, or where they stop being one.
@@ -61,12 +49,20 @@ fn read_state(alloc: Global, bytes: &[u8]) -> Result<State, Stop>
         Ok(head) => head,
         Err(stop) => return Err(stop),
     };
+    let (mirrors, rest) = match read_mirrors(alloc, rest, &known) {
+        Ok(wanted) => wanted,
+        Err(stop) => return Err(stop),
+    };
     let (repos, rest) = match read_repos(alloc, rest, &known) {
         Ok(body) => body,
         Err(stop) => return Err(stop),
     };
     let (snapshots, rest) = match read_snapshots(alloc, rest, &known) {
         Ok(frozen) => frozen,
+        Err(stop) => return Err(stop),
+    };
+    let (publications, rest) = match read_publications(alloc, rest, &known, &repos, &snapshots) {
+        Ok(published) => published,
         Err(stop) => return Err(stop),
     };
     let rest = match read_last(rest, &known) {
@@ -76,7 +72,13 @@ fn read_state(alloc: Global, bytes: &[u8]) -> Result<State, Stop>
     if !is_at_end(bytes, rest) {
         return Err(Stop::Before(rest.len()));
     }
-    Ok(state_of(alloc, known, repos, snapshots))
+    Ok(State {
+        known: known.list,
+        mirrors,
+        repos,
+        snapshots,
+        publications,
+    })
 }
 
 /// The state whose root text the bytes are, or the first line that can't stand there: it has not the form that the lines

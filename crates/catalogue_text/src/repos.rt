@@ -7,7 +7,6 @@ ghost use Rattle.catalogue_text.specs.Grammar.{Series, NextRepo, ReposPart};
 ghost use Rattle.catalogue_text.specs.Reading.{IfBefore, Stops, ReadsSeries, ReadsPart, Each, GoodRepo, GoodRepos, IsIndexed, IdsApart};
 
 use crate::known::Known;
-use crate::lines::after_line;
 use crate::names::follows;
 use crate::sets::read_set;
 use crate::stop::Stop;
@@ -91,12 +90,9 @@ pub(crate) fn read_repos<'a>(
     ensures read { IfOk result (λ p. ReadsPart repos_pieces (GoodRepos known.now.list) text.now p.0.items p.1.now) }
     ensures stops { IfErr result (λ stop. IfBefore stop (λ left. IdsApart known.now.list → Stops (ReposPart known.now.list) text.now left)) }
 {
-    let Some(rest) = after_line(text, "mirrors 0") else {
-        return Err(Stop::Before(text.len()));
-    };
     let most = Limit::Repos.number();
-    let Some((count, rest)) = count_line(rest, "repos ", most) else {
-        return Err(Stop::Before(rest.len()));
+    let Some((count, rest)) = count_line(text, "repos ", most) else {
+        return Err(Stop::Before(text.len()));
     };
     read_each(alloc, rest, known, count)
 }

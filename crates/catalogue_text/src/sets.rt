@@ -3,6 +3,8 @@ ghost use Rattle.std.specs.Prelude.{◌≡◌, ◌++◌, ◌∷◌, ℕ, [], Lis
 ghost use Rattle.package_core.specs.Card.{Card};
 ghost use Rattle.catalogue_text.specs.Pieces.{alone};
 ghost use Rattle.catalogue_text.specs.Root.{id_of, set_pieces};
+ghost use Rattle.machine_state.specs.State.{IsKnown};
+ghost use Rattle.catalogue_text.specs.PublicationReading.{NamesKnown};
 ghost use Rattle.catalogue_text.specs.Grammar.{Series, NextMember, SetPart, MayJoin};
 ghost use Rattle.catalogue_text.specs.Reading.{IfBefore, Stops, ReadsSeries, ReadsPart, GoodSet, NoLine, AddsMember, IsIndexed, IdsApart};
 
@@ -14,6 +16,20 @@ use machine_state::Limit;
 use package_list::PackageList;
 use std::alloc::{AllocError, Global};
 
+/// The place of the known package that the first line names, and the text behind the line.
+pub(crate) fn named_member<'a>(text: &'a [u8], known: &Known) -> Option<(usize, &'a [u8])>
+    requires { IsIndexed known.now }
+    ensures { MatchOption result (NoLine id_of (IsKnown known.now.list) text.now) (λ p. NamesKnown known.now.list text.now p.0 p.1.now) }
+{
+    let Some((id, rest)) = first_line(text) else {
+        return None;
+    };
+    match known.place_of(id) {
+        None => None,
+        Some(place) => Some((place, rest)),
+    }
+}
+
 /// The text behind the line of a member that may join the list. Where there is none, the list is as it was.
 fn next_member<'a>(
     text: &'a [u8],
@@ -23,10 +39,7 @@ fn next_member<'a>(
     requires { IsIndexed known.now }
     ensures { IfOk result (λ found. MatchOption found (IdsApart known.now.list → NoLine id_of (MayJoin known.now.list list.old) text.now) (λ rest. AddsMember known.now.list list.old text.now list.new rest.now)) }
 {
-    let Some((id, rest)) = first_line(text) else {
-        return Ok(None);
-    };
-    let Some(place) = known.place_of(id) else {
+    let Some((place, rest)) = named_member(text, known) else {
         return Ok(None);
     };
     if list.push_of(&known.list, place)? {

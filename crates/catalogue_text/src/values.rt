@@ -1,9 +1,8 @@
 //! The lines of a root text that give one value each.
 ghost use Rattle.std.specs.Prelude.{◌≡◌, ◌∷◌, ◌++◌, ◌≤◌, ℕ, List, [], Option, Some, IfOk, IfSome, MatchOption, IsTrue, IsFalse, unwrap_or};
 ghost use Rattle.std.specs.Fmt.{decimal};
-ghost use Rattle.std.specs.List.{list_all};
 ghost use Rattle.ap_text.specs.Names.{is_name as name, is_component as component};
-ghost use Rattle.machine_state.specs.State.{is_line as line_text, is_line_byte as line_byte, IsLineText};
+ghost use Rattle.machine_state.specs.State.{IsLineText};
 ghost use Rattle.catalogue_text.specs.Lines.{IsLine};
 ghost use Rattle.catalogue_text.specs.Root.{blank_and, name_line as name_spelled, comment_line as comment_spelled, distribution_line as distribution_spelled, component_line as component_spelled};
 ghost use Rattle.catalogue_text.specs.Grammar.{IsName};
@@ -12,10 +11,11 @@ ghost use Rattle.catalogue_text.specs.Reading.{NoLine, ReadsLine};
 use crate::lines::{as_text, key_line};
 use ap_text::{Name, is_component, is_name, read_decimal};
 use control_stanza::Text;
+use machine_state::is_line;
 use std::alloc::{AllocError, Global};
 
 /// The text of a setting: nothing, or a blank and a text that is not empty.
-fn setting(written: &[u8]) -> Option<&[u8]>
+pub(crate) fn setting(written: &[u8]) -> Option<&[u8]>
     ensures { MatchOption result ((value : List ℕ) → written.now ≡ blank_and value → ⊥) (λ value. written.now ≡ blank_and value.now) }
 {
     match written.split_first() {
@@ -43,7 +43,7 @@ fn name_of(alloc: Global, text: &str) -> Result<Option<Name>, AllocError>
     }
 }
 
-fn name_of_bytes(alloc: Global, bytes: &[u8]) -> Result<Option<Name>, AllocError>
+pub(crate) fn name_of_bytes(alloc: Global, bytes: &[u8]) -> Result<Option<Name>, AllocError>
     ensures { IfOk result (λ found. MatchOption found (IsFalse (name bytes.now)) (λ n. (n ≡ bytes.now) × IsTrue (name n))) }
 {
     match as_text(bytes) {
@@ -52,23 +52,8 @@ fn name_of_bytes(alloc: Global, bytes: &[u8]) -> Result<Option<Name>, AllocError
     }
 }
 
-fn are_line_bytes(bytes: &[u8]) -> bool
-    ensures { result ≡ list_all line_byte bytes.now }
-{
-    bytes.iter().all(|b| *b >= 32 && *b != 127)
-}
-
-fn is_line(bytes: &[u8]) -> bool
-    ensures { result ≡ line_text bytes.now }
-{
-    bytes.len() <= 200
-        && are_line_bytes(bytes)
-        && (bytes.is_empty() || bytes[0] != 32)
-        && (bytes.is_empty() || bytes[bytes.len() - 1] != 32)
-}
-
 /// The bytes as a line of text, where they are one.
-fn line_text_of(alloc: Global, bytes: &[u8]) -> Result<Option<Text>, AllocError>
+pub(crate) fn line_text_of(alloc: Global, bytes: &[u8]) -> Result<Option<Text>, AllocError>
     ensures { IfOk result (λ found. MatchOption found (IsLineText bytes.now → ⊥) (λ text. (text ≡ bytes.now) × IsLineText bytes.now)) }
 {
     if !is_line(bytes) {

@@ -7,6 +7,8 @@ ghost use Rattle.catalogue_text.specs.Pieces.{alone, packed, piece_text, package
 ghost use Rattle.catalogue_text.specs.Root.{blank_and, id_of, joined, set_pieces, repo_pieces, known_pieces, repos_pieces, snapshot_pieces, snapshots_pieces, last_pieces, root_pieces, root_text as root_of};
 
 use crate::known::id_text;
+use crate::write_mirrors::put_mirrors;
+use crate::write_publications::put_publications;
 use ap_text::Name;
 use control_stanza::Text;
 use machine_state::{Repo, Snapshot, State};
@@ -16,7 +18,7 @@ use std::alloc::{AllocError, Global};
 use std::fmt::Write;
 
 /// A line of a key and a text.
-fn put_line(out: &mut String, key: &str, text: &str) -> Result<(), AllocError>
+pub(crate) fn put_line(out: &mut String, key: &str, text: &str) -> Result<(), AllocError>
     ensures { OnOk result (string_bytes out.new ≡ string_bytes out.old ++ piece_text (alone (key.now ++ text.now))) }
 {
     out.push_str(key)?;
@@ -26,7 +28,7 @@ fn put_line(out: &mut String, key: &str, text: &str) -> Result<(), AllocError>
 }
 
 /// A line of a key, and of a blank and the text where there is a text.
-fn put_setting(out: &mut String, key: &str, text: &str) -> Result<(), AllocError>
+pub(crate) fn put_setting(out: &mut String, key: &str, text: &str) -> Result<(), AllocError>
     ensures { OnOk result (string_bytes out.new ≡ string_bytes out.old ++ piece_text (alone (key.now ++ blank_and text.now))) }
 {
     out.push_str(key)?;
@@ -38,7 +40,7 @@ fn put_setting(out: &mut String, key: &str, text: &str) -> Result<(), AllocError
     Ok(())
 }
 
-fn put_count(out: &mut String, key: &str, count: usize) -> Result<(), AllocError>
+pub(crate) fn put_count(out: &mut String, key: &str, count: usize) -> Result<(), AllocError>
     ensures { OnOk result (string_bytes out.new ≡ string_bytes out.old ++ piece_text (alone (key.now ++ decimal count))) }
 {
     out.push_str(key)?;
@@ -47,7 +49,7 @@ fn put_count(out: &mut String, key: &str, count: usize) -> Result<(), AllocError
     Ok(())
 }
 
-fn put_fixed(out: &mut String, text: &str) -> Result<(), AllocError>
+pub(crate) fn put_fixed(out: &mut String, text: &str) -> Result<(), AllocError>
     ensures { OnOk result (string_bytes out.new ≡ string_bytes out.old ++ piece_text (alone text.now)) }
 {
     out.push_str(text)?;
@@ -102,7 +104,7 @@ fn put_ids(alloc: Global, out: &mut String, list: &PackageList) -> Result<(), Al
     Ok(())
 }
 
-fn put_set(alloc: Global, out: &mut String, list: &PackageList) -> Result<(), AllocError>
+pub(crate) fn put_set(alloc: Global, out: &mut String, list: &PackageList) -> Result<(), AllocError>
     ensures { OnOk result (string_bytes out.new ≡ string_bytes out.old ++ joined (set_pieces list.now)) }
 {
     put_count(out, "set ", list.len())?;
@@ -128,7 +130,11 @@ fn put_each(alloc: Global, out: &mut String, repos: &[Repo]) -> Result<(), Alloc
     Ok(())
 }
 
-fn put_known(alloc: Global, out: &mut String, known: &PackageList) -> Result<(), AllocError>
+pub(crate) fn put_known(
+    alloc: Global,
+    out: &mut String,
+    known: &PackageList,
+) -> Result<(), AllocError>
     ensures { OnOk result (string_bytes out.new ≡ string_bytes out.old ++ joined (known_pieces known.now)) }
 {
     put_fixed(out, "aptly root 0")?;
@@ -136,10 +142,9 @@ fn put_known(alloc: Global, out: &mut String, known: &PackageList) -> Result<(),
     put_packages(alloc, out, known)
 }
 
-fn put_repos(alloc: Global, out: &mut String, repos: &[Repo]) -> Result<(), AllocError>
+pub(crate) fn put_repos(alloc: Global, out: &mut String, repos: &[Repo]) -> Result<(), AllocError>
     ensures { OnOk result (string_bytes out.new ≡ string_bytes out.old ++ joined (repos_pieces repos.now)) }
 {
-    put_fixed(out, "mirrors 0")?;
     put_count(out, "repos ", repos.len())?;
     put_each(alloc, out, repos)
 }
@@ -164,7 +169,11 @@ fn put_each_snapshot(
     Ok(())
 }
 
-fn put_snapshots(alloc: Global, out: &mut String, snapshots: &[Snapshot]) -> Result<(), AllocError>
+pub(crate) fn put_snapshots(
+    alloc: Global,
+    out: &mut String,
+    snapshots: &[Snapshot],
+) -> Result<(), AllocError>
     ensures { OnOk result (string_bytes out.new ≡ string_bytes out.old ++ joined (snapshots_pieces snapshots.now)) }
 {
     put_count(out, "snapshots ", snapshots.len())?;
@@ -174,7 +183,6 @@ fn put_snapshots(alloc: Global, out: &mut String, snapshots: &[Snapshot]) -> Res
 fn put_last(out: &mut String) -> Result<(), AllocError>
     ensures { OnOk result (string_bytes out.new ≡ string_bytes out.old ++ joined last_pieces) }
 {
-    put_fixed(out, "publications 0")?;
     put_fixed(out, "end")
 }
 
@@ -184,8 +192,10 @@ pub fn root_text(alloc: Global, state: &State) -> Result<Text, AllocError>
 {
     let mut out = String::new(alloc);
     put_known(alloc, &mut out, &state.known)?;
+    put_mirrors(alloc, &mut out, &state.mirrors)?;
     put_repos(alloc, &mut out, &state.repos)?;
     put_snapshots(alloc, &mut out, &state.snapshots)?;
+    put_publications(alloc, &mut out, &state.publications)?;
     put_last(&mut out)?;
     Text::new(alloc, out.as_str())
 }

@@ -1,119 +1,35 @@
 -- A list that is added to a repository.
-use Rattle.std.proofs.Common.{◌≡◌, ◌⊎◌, inl, inr, ℕ, suc, ◌≤◌, Bool, true, false, not, cond, ◌&&◌, ◌||◌, List, [], ◌∷◌, map, length, Option, Some, None, Result, Ok, Err, refl, sym, ap, ◌∙◌, subst, arith, nat_lt, find, Ordering, Less, Equal, Greater, ltb-false, true≢false}
-use Rattle.std.specs.Ordering.{is_eq, ordering_reverse, nat_cmp}
-use Rattle.std.specs.List.{All, AllByRecursion, list_any}
+use Rattle.std.proofs.Common.{◌≡◌, ◌⊎◌, inl, inr, ℕ, ◌≤◌, Bool, true, false, cond, List, [], ◌∷◌, map, length, Some, None, Ok, refl, sym, ap, ◌∙◌, subst, arith, Ordering, Less, Equal, Greater}
+use Rattle.std.specs.Ordering.{is_eq, nat_cmp}
+use Rattle.std.specs.List.{All, AllByRecursion}
 use Rattle.std.specs.Option.{option_or}
 use Rattle.std.specs.Str.{bytes_eq}
 use Rattle.std.specs.Cmp.Lexicographic.{slice_cmp}
+use Rattle.std.proofs.lemmas.List.{length-map}
 use Rattle.std.proofs.lemmas.Map.Text.{is_eq-slice_cmp}
 use Rattle.std.proofs.lemmas.Cmp.{alike_right, nat_list_cmp_total}
 use Rattle.package_core.specs.Card.{Card}
-use Rattle.package_core.specs.Order.{package_cmp, triple_cmp}
+use Rattle.package_core.specs.Order.{package_cmp}
 use Rattle.package_core.specs.Whole.{IsWhole}
-use Rattle.package_core.proofs.OrderLaws.{package_total, triple_total, same_triple-is}
-use Rattle.package_list.specs.declared.list.TheConstants.{MOST_MEMBERS}
-use Rattle.package_list.specs.declared.fault.ListFault.{ListFault}
-use Rattle.package_list.specs.declared.fault.ListFault.TheVariants.{Full}
+use Rattle.package_core.proofs.OrderLaws.{package_total}
 use Rattle.package_list.specs.Sorted.{IsAscending, equal_of}
-use Rattle.package_list.specs.Lists.{union, clash, clashes, has_clash}
-use Rattle.package_list.specs.Answers.{append_answer, conflict_or, first_clash, size_answer}
+use Rattle.package_list.specs.Lists.{union}
+use Rattle.package_list.specs.Answers.{append_answer}
 use Rattle.package_list.proofs.SortedLemmas.{union_ascending}
 use Rattle.package_list.proofs.Unions.{equal_of_union}
-use Rattle.machine_state.specs.declared.limit.Limit.TheVariants.{Packages, Known, Catalogue, File}
+use Rattle.machine_state.specs.declared.limit.Limit.TheVariants.{Known, Catalogue, File}
 use Rattle.machine_state.specs.declared.repo.Repo.{Repo}
 use Rattle.machine_state.specs.Ascending as plain
 use Rattle.machine_state.specs.Limits.{limit_number}
 use Rattle.machine_state.specs.State.{IsRepo, IsKnown, IsNamedList, IsCatalogue, Valid, repo_cmp, repo_of, text_length}
 use Rattle.machine_state.specs.Values.{StateView}
+use Rattle.machine_state.proofs.ListLemmas.{Appends, appends, apart_union}
+use Rattle.machine_state.proofs.StayLemmas.{sorted_changed, stays_changed}
 use Rattle.machine_state.proofs.ValidLemmas.{valid_with}
 use Rattle.local_repo.specs.Arrival.{list_in, list_of}
 use Rattle.local_repo.specs.Fits.{with_more, FitsIn}
 use Rattle.package_intake.specs.Taking.{IsTakenIn, AreTakenIn}
-use Rattle.package_intake.proofs.ListLemmas.{by_places, each_of, all_map, all_union, found_holds, each_itself, AreEqual, ascending_alike}
-
--- ---- clashes
-and_flip : (a b c d : Bool) → a ≡ c → b ≡ d → (a && b) ≡ (c && d)
-and_flip a b c d e f = (λ i. e i && f i)
-
-turned_equal : (r s : Ordering) → r ≡ ordering_reverse s → is_eq r ≡ is_eq s
-turned_equal r Less e = ap is_eq e
-turned_equal r Equal e = ap is_eq e
-turned_equal r Greater e = ap is_eq e
-
--- whether two clash doesn't hang on their order
-clash_turned : (p q : Card) → clash p q ≡ clash q p
-clash_turned p q =
-    let triples = same_triple-is p q ∙ turned_equal (triple_cmp p q) (triple_cmp q p) (triple_total.antisymm p q) ∙ sym (same_triple-is q p) in
-    let equals = ap not (turned_equal (package_cmp p q) (package_cmp q p) (package_total.antisymm p q)) in
-    (λ i. triples i && equals i)
-
-none_of : {X : Type 0} (test : X → Bool) (xs : List X) → list_any test xs ≡ false → AllByRecursion (λ x. test x ≡ false) xs
-none_of test [] h = tt
-none_of test (x ∷ xs) h = by_test (test x) refl h (none_of test xs)
-  where
-    by_test : (b : Bool) → test x ≡ b → (b || list_any test xs) ≡ false → (list_any test xs ≡ false → AllByRecursion (λ y. test y ≡ false) xs) → AllByRecursion (λ y. test y ≡ false) (x ∷ xs)
-    by_test true e g more = absurd (true≢false g)
-    by_test false e g more = (e, more g)
-
-none_any : {X : Type 0} (test : X → Bool) (xs : List X) → AllByRecursion (λ x. test x ≡ false) xs → list_any test xs ≡ false
-none_any test [] h = refl
-none_any test (x ∷ xs) h = (λ i. h.0 i || none_any test xs h.1 i)
-
-none_found : {X : Type 0} (test : X → Bool) (xs : List X) → find test xs ≡ None → AllByRecursion (λ x. test x ≡ false) xs
-none_found test [] h = tt
-none_found test (x ∷ xs) h = by_test (test x) refl h (none_found test xs)
-  where
-    never : {Y : Type 0} → Some x ≡ None → Y
-    never e = cc
-
-    by_test : (b : Bool) → test x ≡ b → cond b (Some x) (find test xs) ≡ None → (find test xs ≡ None → AllByRecursion (λ y. test y ≡ false) xs) → AllByRecursion (λ y. test y ≡ false) (x ∷ xs)
-    by_test true e g more = absurd (never g)
-    by_test false e g more = (e, more g)
-
--- the union of lists that don't clash, and whose members don't clash in it, has no clash
-apart_union : (own list : List Card) → IsAscending package_cmp own → has_clash own ≡ false → first_clash (union own list) list ≡ None → has_clash (union own list) ≡ false
-apart_union own list a apart none = none_any (clashes all) all (all_union package_total (λ p. clashes all p ≡ false) own list (of_own own own_members own_apart) later)
-  where
-    all : List Card
-    all = union own list
-
-    later : AllByRecursion (λ p. clashes (union own list) p ≡ false) list
-    later = none_found (clashes (union own list)) list none
-
-    own_apart : AllByRecursion (λ p. clashes own p ≡ false) own
-    own_apart = none_of (clashes own) own apart
-
-    own_members : AllByRecursion (λ p. equal_of package_cmp (union own list) p ≡ Some p) own
-    own_members = all_map (λ p. equal_of package_cmp own p ≡ Some p) (λ p. equal_of package_cmp (union own list) p ≡ Some p) (λ p h. equal_of_union package_total own list p a ∙ ap (λ e. option_or e (equal_of package_cmp list p)) h) own (each_itself package_total own a)
-
-    one_later : (p : Card) → equal_of package_cmp (union own list) p ≡ Some p → (ys : List Card) → AllByRecursion (λ q. clashes (union own list) q ≡ false) ys → AllByRecursion (λ q. clash q p ≡ false) ys
-    one_later p m [] h = tt
-    one_later p m (q ∷ ys) h =
-        (clash_turned q p ∙ found_holds package_total (λ x. clash x q ≡ false) (union own list) p p (none_of (λ x. clash x q) (union own list) h.0) m, one_later p m ys h.1)
-
-    of_own : (xs : List Card) → AllByRecursion (λ p. equal_of package_cmp (union own list) p ≡ Some p) xs → AllByRecursion (λ p. clashes own p ≡ false) xs → AllByRecursion (λ p. clashes (union own list) p ≡ false) xs
-    of_own [] m h = tt
-    of_own (p ∷ xs) m h =
-        (none_any (λ q. clash q p) (union own list) (all_union package_total (λ q. clash q p ≡ false) own list (none_of (λ q. clash q p) own h.0) (one_later p m.0 list later)), of_own xs m.1 h.1)
-
--- ---- what a list that can be appended is
-record Appends (own list : List Card) : Type 0 where
-  none : first_clash (union own list) list ≡ None
-  few : length (union own list) ≤ limit_number Packages
-
-abbrev sized : Bool → Result (Unit {0}) ListFault
-sized b = cond b (Err Full) (Ok tt)
-
-appends : (own list : List Card) → append_answer own list ≡ Ok tt → Appends own list
-appends own list h = by_clash (first_clash (union own list) list) refl h
-  where
-    by_size : (b : Bool) → nat_lt (limit_number Packages) (length (union own list)) ≡ b → sized b ≡ Ok tt → length (union own list) ≤ limit_number Packages
-    by_size true e g = cc
-    by_size false e g = ltb-false (limit_number Packages) (length (union own list)) e
-
-    by_clash : (c : Option Card) → first_clash (union own list) list ≡ c → conflict_or c (size_answer MOST_MEMBERS (union own list)) ≡ Ok tt → Appends own list
-    by_clash (Some p) e g = cc
-    by_clash None e g = record { none = e; few = by_size (nat_lt (limit_number Packages) (length (union own list))) refl g }
+use Rattle.package_intake.proofs.ListLemmas.{by_places, each_of, all_map, all_union, each_itself, AreEqual, ascending_alike}
 
 -- ---- what is known goes on being known
 known_more : (known list : List Card) (p : Card) → IsAscending package_cmp known → IsKnown known p → IsKnown (union known list) p
@@ -166,7 +82,7 @@ catalogue_more known ps list c t few texts = record {
 list_added : (known ps own list : List Card) → IsAscending package_cmp known → IsNamedList known own → IsAscending package_cmp ps → AreTakenIn known ps list → Appends own list → IsNamedList (union known list) (union own list)
 list_added known ps own list a n b t g = record {
   sorted = union_ascending package_total own list n.sorted;
-  apart = apart_union own list n.sorted n.apart g.none;
+  apart = apart_union own list n.apart g.none;
   listed = by_places (IsKnown (union known list)) (union own list) (all_union package_total (IsKnown (union known list)) own list (each_of (IsKnown (union known list)) own (known_all known list own a n.listed)) (taken_known known ps list a (taken_ascending known ps list t b) t));
   few = g.few;
 }
@@ -189,21 +105,6 @@ repo_more name list repo h = by_test (bytes_eq repo.name name)
 repos_more : (name : List ℕ) (list : List Card) (repos : List Repo) → AllByRecursion IsRepo repos → AllByRecursion IsRepo (map (with_more name list) repos)
 repos_more name list [] h = tt
 repos_more name list (r ∷ rs) h = (repo_more name list r h.0, repos_more name list rs h.1)
-
-cmp_more : (name : List ℕ) (list : List Card) (r s : Repo) → repo_cmp (with_more name list r) (with_more name list s) ≡ repo_cmp r s
-cmp_more name list r s = (λ i. slice_cmp nat_cmp (with_more_name name list r i) (with_more_name name list s i))
-
-below_named : (name : List ℕ) (list : List Card) (r : Repo) (rs : List Repo) → plain.IsBelow repo_cmp r rs → plain.IsBelow repo_cmp (with_more name list r) (map (with_more name list) rs)
-below_named name list r [] b = tt
-below_named name list r (s ∷ rs) b = (cmp_more name list r s ∙ b.0, below_named name list r rs b.1)
-
-sorted_more : (name : List ℕ) (list : List Card) (rs : List Repo) → plain.IsAscending repo_cmp rs → plain.IsAscending repo_cmp (map (with_more name list) rs)
-sorted_more name list [] a = tt
-sorted_more name list (r ∷ rs) a = (below_named name list r rs a.0, sorted_more name list rs a.1)
-
-count_more : (name : List ℕ) (list : List Card) (rs : List Repo) → length (map (with_more name list) rs) ≡ length rs
-count_more name list [] = refl
-count_more name list (r ∷ rs) = ap (λ n. suc n) (count_more name list rs)
 
 -- a repository that comes after one of that name has another
 pub later_differs : (name : List ℕ) (r s : Repo) → bytes_eq r.name name ≡ true → repo_cmp r s ≡ Less → bytes_eq s.name name ≡ false
@@ -247,13 +148,13 @@ lists_more known ps list name (r ∷ rs) a b t s h g = by_test (bytes_eq r.name 
 -- ---- all of it
 pub taken_fits : (state : StateView) (name : List ℕ) (ps list : List Card) → Valid state → IsAscending package_cmp ps → AreTakenIn state.known ps list → append_answer (list_of state name) list ≡ Ok tt → length (union state.known list) ≤ limit_number Known → text_length (union state.known list) ≤ limit_number Catalogue → FitsIn state name list
 taken_fits state name ps list v b t g few texts =
-    let n : length (map (with_more name list) state.repos) ≡ length state.repos = count_more name list state.repos in
+    let n : length (map (with_more name list) state.repos) ≡ length state.repos = length-map state.repos (with_more name list) in
     record {
       whole = by_places IsWhole list (taken_all state.known ps list IsWhole (λ p q h. h.whole) t);
       valid = valid_with state (union state.known list) (map (with_more name list) state.repos) v (catalogue_more state.known ps list v.known t few texts) (record {
         each = by_places IsRepo (map (with_more name list) state.repos) (repos_more name list state.repos (each_of IsRepo state.repos v.repos.each));
         lists = by_places (λ (repo : Repo). IsNamedList (union state.known list) repo.list) (map (with_more name list) state.repos) (lists_more state.known ps list name state.repos v.known.sorted b t v.repos.sorted (each_of (λ (repo : Repo). IsNamedList state.known repo.list) state.repos v.repos.lists) (appends (list_of state name) list g));
-        sorted = sorted_more name list state.repos v.repos.sorted;
+        sorted = sorted_changed (with_more name list) (with_more_name name list) state.repos v.repos.sorted;
         few = omega (arith, n, v.repos.few);
-      }) (λ p. known_more state.known list p v.known.sorted);
+      }) (λ p. known_more state.known list p v.known.sorted) (stays_changed (with_more name list) (with_more_name name list) state.repos);
     }

@@ -39,7 +39,7 @@ use Rattle.local_repo.proofs.FitLemmas.{later_differs, same_more}
 
 -- ---- nothing new
 
-union_has : (xs ys : List Card) → IsAscending package_cmp xs → AllByRecursion (λ p. has_member xs p ≡ true) ys → union xs ys ≡ xs
+pub union_has : (xs ys : List Card) → IsAscending package_cmp xs → AllByRecursion (λ p. has_member xs p ≡ true) ys → union xs ys ≡ xs
 union_has xs [] a h = refl
 union_has xs (y ∷ ys) a h = ap (λ (l : List Card). union l ys) (put_has package_total xs y a h.0) ∙ union_has xs ys a h.1
 

@@ -1,6 +1,8 @@
 pub mod Arrival
 pub mod Fits
 pub mod Answers
+pub mod Replies
+pub mod Settings
 pub mod Cases
 pub use Rattle.package_intake.specs.Index
 pub use Rattle.package_intake.specs.Steps

@@ -1,24 +1,23 @@
-//! Whether a repository is there.
-ghost use Rattle.std.specs.Prelude.{◌≡◌, ◌≤◌, IfOk, IfErr, OnOk, None, Some, length, insert};
-ghost use Rattle.machine_state.specs.Ascending.{put, IsAscending};
-ghost use Rattle.machine_state.specs.State.{Valid, repo_cmp, repo_of};
+//! Whether a repository is there, and whether it is in use.
+ghost use Rattle.std.specs.Prelude.{◌≡◌, IfOk, IfErr, OnOk, None, Some};
+ghost use Rattle.machine_state.specs.Sources.{in_use as use_of};
+ghost use Rattle.machine_state.specs.State.{Valid, repo_of};
+ghost use Rattle.machine_state.specs.declared.limit.Kind.TheVariants as kinds;
 ghost use Rattle.step_model.specs.Answers.{IsFirst};
-ghost use Rattle.local_repo.specs.Cases.{new_repo as made, taken, unknown};
+ghost use Rattle.local_repo.specs.Cases.{taken, unknown};
 
 use ap_text::Name;
-use machine_state::{ChangeFault, Kind, Refusal, Repo, State, place_of_repo};
+use machine_state::{ChangeFault, Kind, Refusal, Repo, State, in_use};
 use std::alloc::Global;
 
-/// Where a repository of this name would go among the others. A name that is taken is refused.
-pub(crate) fn free_place(alloc: Global, repos: &[Repo], name: &Name) -> Result<usize, ChangeFault>
-    ensures good { IsAscending repo_cmp repos.now → OnOk result (taken repos.now name.now ≡ None) }
-    ensures fault { IsAscending repo_cmp repos.now → IfErr result (IsFirst (taken repos.now name.now)) }
-    ensures place { IsAscending repo_cmp repos.now → IfOk result (λ place. put repo_cmp (made name.now) repos.now ≡ insert repos.now place (made name.now)) }
-    ensures bound { IfOk result (λ place. place ≤ length repos.now) }
+/// No repository has the name yet. One that is taken is refused.
+pub(crate) fn free(alloc: Global, state: &State, name: &Name) -> Result<(), ChangeFault>
+    ensures good { Valid state.now → OnOk result (taken state.now.repos name.now ≡ None) }
+    ensures fault { Valid state.now → IfErr result (IsFirst (taken state.now.repos name.now)) }
 {
-    match place_of_repo(repos, name) {
-        Ok(_) => Err(ChangeFault::Refused(Refusal::Exists(Kind::Repo, name.copy(alloc)?))),
-        Err(place) => Ok(place),
+    match state.repo(name) {
+        None => Ok(()),
+        Some(_) => Err(ChangeFault::Refused(Refusal::Exists(Kind::Repo, name.copy(alloc)?))),
     }
 }
 
@@ -35,5 +34,16 @@ pub(crate) fn there<'a>(
     match state.repo(name) {
         Some(repo) => Ok(repo),
         None => Err(ChangeFault::Refused(Refusal::Unknown(Kind::Repo, name.copy(alloc)?))),
+    }
+}
+
+/// No publication uses the repository. One that is used is refused, with the first publication that does.
+pub(crate) fn unused(alloc: Global, state: &State, name: &Name) -> Result<(), ChangeFault>
+    ensures good { OnOk result (use_of kinds.Repo name.now state.now.publications ≡ None) }
+    ensures fault { IfErr result (IsFirst (use_of kinds.Repo name.now state.now.publications)) }
+{
+    match in_use(alloc, &state.publications, Kind::Repo, name)? {
+        None => Ok(()),
+        Some(refusal) => Err(ChangeFault::Refused(refusal)),
     }
 }

@@ -6,7 +6,7 @@ ghost use Rattle.machine_state.specs.declared.arrived.Arrived.{Arrived};
 ghost use Rattle.step_model.specs.Answers.{came, ComesTo, FaultIs, IsMemory, IsNew, IsRefusedFor};
 ghost use Rattle.local_repo.specs.Cases.{repo_case};
 
-use crate::early::show_early;
+use crate::early::named_repo;
 use command_table::Command;
 use control_stanza::Text;
 use machine_state::{Change, ChangeFault, Refusal, State};
@@ -35,7 +35,7 @@ fn show_named(
     ensures fault { (arrived : Arrived) → Valid state.now → IfErr result (FaultIs (IsRefusedFor None (repo_case state.now (show_of with_packages.now name.now)) arrived)) }
     ensures new { IfOk result (λ change. IsNew state.now change.state) }
 {
-    let repo = show_early(alloc, state, name)?;
+    let repo = named_repo(alloc, state, name)?;
     let reply = repo_show(alloc, repo, with_packages.unwrap_or(false))?;
     Ok(Change { state: None, reply })
 }

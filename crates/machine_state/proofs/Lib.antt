@@ -1,5 +1,11 @@
 pub mod AscendingLemmas
+pub mod FrontLemmas
 pub mod KeyLemmas
+pub mod KindLemmas
+pub mod NamedLemmas
 pub mod PlaceLemmas
 pub mod RepoLemmas
+pub mod SourceLemmas
+pub mod ListLemmas
+pub mod StayLemmas
 pub mod ValidLemmas

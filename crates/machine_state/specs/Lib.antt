@@ -7,3 +7,4 @@ pub mod Lists
 pub mod Mirrors
 pub mod Publications
 pub mod State
+pub mod Sources

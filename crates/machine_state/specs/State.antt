@@ -1,5 +1,5 @@
 -- Which states are valid, and what is found in a state.
-use Rattle.std.specs.Prelude.{◌≡◌, ℕ, Bool, false, ◌&&◌, List, [], Option, is_some, IsTrue, All, find}
+use Rattle.std.specs.Prelude.{ℕ, Bool, false, ◌&&◌, List, [], Option, is_some, IsTrue, All, find}
 use Rattle.std.specs.Option.{option_cmp, option_eq}
 use Rattle.std.specs.Str.{bytes_eq}
 use Rattle.std.specs.Ordering.{nat_cmp, ordering_then}
@@ -19,7 +19,7 @@ use Rattle.machine_state.specs.Publications.{IsPublication, PublicationLists}
 use Rattle.machine_state.specs.Values.{MirrorView, PublicationView, StateView}
 pub use Rattle.machine_state.specs.Lists.{IsKnown, IsNamedList, IsCatalogue, text_length}
 pub use Rattle.machine_state.specs.Mirrors.{IsRepo, IsSnapshot}
-pub use Rattle.machine_state.specs.Texts.{is_line, is_line_byte, IsLineText}
+pub use Rattle.machine_state.specs.Texts.{is_line, is_line_byte, is_line_text, IsLineText}
 
 -- ---- what is found
 abbrev pub mirror_name : MirrorView → List ℕ
@@ -86,12 +86,6 @@ has_source state kinds.Component name = false
 abbrev pub HasSources : StateView → PublicationView → Type 0
 HasSources state publication = All (λ source. IsTrue (has_source state publication.kind source.1)) publication.sources
 
--- There is none of the kinds that the root text doesn't carry yet; otherwise two valid states would have one text. A kind leaves
--- this record when its part of the root text is written.
-pub record IsStored (state : StateView) : Type 0 where
-  pub mirrors : state.mirrors ≡ []
-  pub publications : state.publications ≡ []
-
 -- A valid state: all that is said of its known packages, and of each kind by itself; the sources of publications are there. What
 -- published files have to be is said beside the published tree.
 pub record Valid (state : StateView) : Type 0 where
@@ -101,7 +95,6 @@ pub record Valid (state : StateView) : Type 0 where
   pub snapshots : AreSnapshots state.known state.snapshots
   pub publications : ArePublications state.known state.publications
   pub sources : All (HasSources state) state.publications
-  pub stored : IsStored state
 
 -- the state of an empty store
 abbrev pub empty : StateView

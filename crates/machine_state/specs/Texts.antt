@@ -1,7 +1,7 @@
 -- What the texts of a state have to be.
 use Rattle.std.specs.Prelude.{◌≡◌, ◌≢◌, ◌≤◌, ◌⊎◌, ℕ, ◌-◌, Bool, not, ◌&&◌, ◌||◌, ◌==◌, nat_le, List, [], length, slice_index, codes, IsTrue, All}
 use Rattle.std.specs.List.{list_all}
-use Rattle.std.specs.Str.{IsUtf8, bytes_eq}
+use Rattle.std.specs.Str.{IsUtf8, is_utf8, bytes_eq}
 use Rattle.std.specs.Ordering.{nat_cmp}
 use Rattle.std.specs.Cmp.Lexicographic.{slice_cmp}
 use Rattle.ap_text.specs.Names.{is_architecture}
@@ -22,6 +22,10 @@ is_line text = nat_le (length text) 200 && list_all is_line_byte text && not (sl
 pub record IsLineText (text : List ℕ) : Type 0 where
   pub line : IsTrue (is_line text)
   pub utf8 : IsUtf8 text
+
+-- the same as a test
+abbrev pub is_line_text : List ℕ → Bool
+is_line_text text = is_line text && is_utf8 text
 
 -- a line of text that isn't empty, or else this default
 abbrev pub IsTitle : List ℕ → List ℕ → Type 0

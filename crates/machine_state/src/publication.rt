@@ -104,7 +104,7 @@ impl Publication {
     }
 
     /// How its place stands to another: by the prefix, where none comes first, and then by the distribution.
-    fn place_order(&self, prefix: &Option<SafePath>, dist: &Name) -> Ordering
+    pub fn place_order(&self, prefix: &Option<SafePath>, dist: &Name) -> Ordering
         ensures { result ≡ place_cmp self.now prefix.now dist.now }
     {
         prefix_order(&self.prefix, prefix).then(self.dist.order(dist))

@@ -1,10 +1,8 @@
 -- What a command is, by its family.
-use Rattle.std.proofs.Common.{◌≡◌, ℕ, ℤ, List, Option, Some, None, Result, Ok, Err, refl, sym, ap, subst, ◌∙◌}
-use Rattle.std.specs.Result.{IfErr, IsErrAnd}
+use Rattle.std.proofs.Common.{◌≡◌, ℕ, ℤ, List, Option, Some, refl, sym, ap, ◌∙◌}
 use Rattle.command_table.specs.declared.command.Command.{Command}
 use Rattle.command_table.specs.declared.command.Command.TheVariants as commands
 use Rattle.command_words.specs.Plain.{PlainCommand, RepoCommand, OtherCommand, plain, of_mirror, of_repo, of_snapshot, of_publish, of_other, package_search, package_show}
-use Rattle.machine_state.specs.declared.change.ChangeFault.{ChangeFault}
 use Rattle.machine_state.specs.declared.change.ChangeFault.TheVariants as faults
 use Rattle.machine_state.specs.declared.refusal.Refusal.{Refusal}
 use Rattle.machine_state.specs.declared.refusal.Refusal.TheVariants.{PatternTooLarge}
@@ -13,9 +11,8 @@ use Rattle.machine_state.specs.Values.{StateView}
 use Rattle.reply_text.specs.Replies as replies
 use Rattle.step_model.specs.declared.reading.Reading.{Reading}
 use Rattle.step_model.specs.declared.reading.Reading.TheVariants as readings
-use Rattle.step_model.specs.Answers.{FaultIs, KeepsBut, KeepsText, Told}
+use Rattle.step_model.specs.Answers.{KeepsBut}
 use Rattle.step_model.specs.Case.{Case, unbuilt}
-use Rattle.step_model.proofs.FaultLemmas.{err_map, fault_map}
 use Rattle.local_repo.specs.Cases as repos
 use Rattle.local_repo.specs.Cases.{repo_case}
 use Rattle.machine_step.specs.Answers.{KeepsUnlessTold}
@@ -81,29 +78,6 @@ case_of_search s c query e = sym (ap (case_in s) e)
 pub case_of_show : (s : StateView) (c : OtherCommand) (query : List ℕ) → of_other c ≡ of_other (package_show query) → asking s query replies.package_show ≡ other_case s c
 unfolding other_case
 case_of_show s c query e = sym (ap (case_in s) e)
-
--- a fault that is told so is told otherwise
-pub told_fault : (old new : ℕ) (refused : Option (List ℕ)) (P Q : Option (List ℕ) → Refusal → Type 0) (fault : ChangeFault) → ((large : Option (List ℕ)) (refusal : Refusal) → P large refusal → Q large refusal)
-    → FaultIs (λ refusal. Told old new refused (λ large. P large refusal)) fault → FaultIs (λ refusal. Told old new refused (λ large. Q large refusal)) fault
-told_fault old new refused P Q fault f h = fault_map (λ refusal. Told old new refused (λ large. P large refusal)) (λ refusal. Told old new refused (λ large. Q large refusal)) fault (λ refusal t. (t.0, t.1, f t.0 refusal t.2)) h
-
--- what is refused whatever text was too large
-pub none_told : {X : Type 0} (old new : ℕ) (refused : Option (List ℕ)) (P : Option (List ℕ) → Refusal → Type 0) (r : Result X ChangeFault) → IfErr r (FaultIs (P None)) → IfErr r (FaultIs (λ refusal. Told old new refused (λ large. P large refusal)))
-none_told old new refused P r h = err_map r (FaultIs (P None)) (FaultIs (λ refusal. Told old new refused (λ large. P large refusal))) (λ fault e. fault_map (P None) (λ refusal. Told old new refused (λ large. P large refusal)) fault (λ refusal p. (None, tt, p)) e) h
-
--- the exit of a `?` that hands its fault on
-pub keeps_exit : {X : Type 0} (old new : Option (List ℕ)) (r : Result X ChangeFault) (fault : ChangeFault) → IsErrAnd r (λ e. e ≡ fault) → KeepsBut old new fault → KeepsText old new r
-keeps_exit old new (Ok x) fault h k = absurd h
-keeps_exit old new (Err e) fault h k = subst (KeepsBut old new) (sym h) k
-
--- a builder that wasn't called has its text
-keeps_but : (refused : Option (List ℕ)) (fault : ChangeFault) → KeepsBut refused refused fault
-keeps_but refused (faults.Refused (PatternTooLarge query test)) = tt
-keeps_but refused fault = refl
-
-pub keeps_same : {X : Type 0} (refused : Option (List ℕ)) (r : Result X ChangeFault) → KeepsText refused refused r
-keeps_same refused (Ok x) = refl
-keeps_same refused (Err fault) = keeps_but refused fault
 
 -- which text was refused for its size changes only where such a pattern is told
 pub keeps_told : (old new : Option (List ℕ)) (refusal : Refusal) → KeepsBut old new (faults.Refused refusal) → KeepsUnlessTold old new (Some refusal)

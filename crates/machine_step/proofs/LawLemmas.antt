@@ -29,9 +29,10 @@ use Rattle.local_repo.specs.Arrival.{Arrives}
 use Rattle.package_intake.specs.Faults.{IsInputRefusal}
 use Rattle.local_repo.specs.Answers.{IsArrival}
 use Rattle.machine_step.specs.Causes.{IsCause, IsUnbuilt}
-use Rattle.machine_step.specs.Step.{Given, IsReadable, MayArrive, Step, StepWith, case_of, read_for, refused}
+use Rattle.step_model.specs.Refuses.{IsReadable}
+use Rattle.machine_step.specs.Step.{Given, MayArrive, Step, StepWith, case_of, read_for, refused}
 use Rattle.machine_step.proofs.ArrivalLemmas.{arrival_refused}
-use Rattle.machine_step.proofs.CaseLemmas.{IsLawfulCommand, RepoLaw, command_built, readable}
+use Rattle.machine_step.proofs.CaseLemmas.{IsLawfulCommand, RepoLaw, RepoReads, command_built, readable}
 
 abbrev Out : Type 0
 Out = Outcome StateView Refusal
@@ -100,15 +101,15 @@ arrives some given large state (readings.Folder name folder) is = by_inbox given
     by_inbox None = (arrivals.Refused (InputAbsent folder), tt)
     by_inbox (Some f) = let a = some f state name folder in by_arrival f a.0 a.1
 
-pub total_step : SomeArrives → (given : Given) (large : Option (List ℕ)) (state : StateView) (c : PlainCommand) → (outcome : Out) × Step given large state c outcome
-total_step some given large state c =
-    let a = arrives some given large state (read_for given.now state c) (readable given.now state c) in
+pub total_step : RepoReads → SomeArrives → (given : Given) (large : Option (List ℕ)) (state : StateView) (c : PlainCommand) → (outcome : Out) × Step given large state c outcome
+total_step reads some given large state c =
+    let a = arrives some given large state (read_for given.now state c) (readable reads given.now state c) in
     let o = step_some refusal_line large state (case_of given.now state c) a.0 in
     (o.0, (a.0, a.1, o.1))
 
-pub refuses_step : SomeArrives → (given : Given) (large : Option (List ℕ)) (state : StateView) (c : PlainCommand) (refusal : Refusal) → Refuses large (case_of given.now state c) (Some refusal) → Step given large state c (refused state refusal)
-refuses_step some given large state c refusal h =
-    let a = arrives some given large state (read_for given.now state c) (readable given.now state c) in
+pub refuses_step : RepoReads → SomeArrives → (given : Given) (large : Option (List ℕ)) (state : StateView) (c : PlainCommand) (refusal : Refusal) → Refuses large (case_of given.now state c) (Some refusal) → Step given large state c (refused state refusal)
+refuses_step reads some given large state c refusal h =
+    let a = arrives some given large state (read_for given.now state c) (readable reads given.now state c) in
     (a.0, a.1, record { refusal = Some refusal; refuses = h; comes = refl })
 
 -- ---- why a command is refused
@@ -132,10 +133,6 @@ early_unbuilt case refusal e early = same (sym early ∙ ap (λ (c : Case). c.ea
 
 late_unbuilt : (case : Case) (refusal : Refusal) → case ≡ unbuilt → case.late ≡ Some refusal → ⊥
 late_unbuilt case refusal e late = none_some refusal (sym (ap (λ (c : Case). c.late) e) ∙ late)
-
-has_condition : (large : Option (List ℕ)) (conditions : List Condition) (refusal : Refusal) (p : IsPatternRefusal large conditions refusal) → Contains conditions p.condition
-has_condition large conditions refusal p =
-    subst (λ (l : List Condition). Contains l p.condition) (sym p.split) (Contains-append_right p.before (p.condition ∷ p.behind) p.condition (0, omega arith, refl))
 
 module _ (given : Given) (large : Option (List ℕ)) (state : StateView) (c : PlainCommand) (refusal : Refusal) where
   abbrev here : Case
@@ -164,7 +161,7 @@ module _ (given : Given) (large : Option (List ℕ)) (state : StateView) (c : Pl
 
   by_cause : RepoLaw → (arrived : Arrived) → MayArrive given large state (read_for given.now state c) arrived → Cause large here refusal ⊎ ComesTo large here arrived (refuses refusal) → Wanted
   by_cause law arrived may (inl (inl e)) = by_early (command_built law c) e
-  by_cause law arrived may (inl (inr (inl p))) = inr (inr (p.1.condition, has_condition large here.conditions refusal p.1, p.1.told))
+  by_cause law arrived may (inl (inr (inl p))) = inr (inr p.1)
   by_cause law arrived may (inl (inr (inr e))) = by_late (command_built law c) e.2
   by_cause law arrived may (inr h) = by_came (command_built law c) arrived may h
 

@@ -13,9 +13,11 @@ use Rattle.step_model.specs.Refuses.{Refuses}
 use Rattle.package_intake.proofs.EntryLemmas.{listed_packages}
 use Rattle.local_repo.proofs.LawLemmas.{arrives_fit}
 use Rattle.local_repo.proofs.LawfulLemmas.{lawful}
+use Rattle.local_repo.proofs.ReadLemmas.{repo_reads}
 use Rattle.local_repo.proofs.TotalLemmas.{some_arrives}
 use Rattle.machine_step.specs.Causes.{IsCause, IsUnbuilt}
-use Rattle.machine_step.specs.Step.{Given, IsReadable, Step, StepWith, case_of, read_for, refused}
+use Rattle.step_model.specs.Refuses.{IsReadable}
+use Rattle.machine_step.specs.Step.{Given, Step, StepWith, case_of, read_for, refused}
 use Rattle.machine_step.proofs.CaseLemmas as cases
 use Rattle.machine_step.proofs.CaseLemmas.{RepoLaw}
 use Rattle.machine_step.proofs.LawLemmas.{valid_step, total_step, refuses_step, says_refusal, says_step, plain_step, knows_step, cause_step, unbuilt_step}
@@ -25,10 +27,10 @@ repo_law = lawful (arrives_fit listed_packages)
 
 module _ (given : Given) (large : Option (List ℕ)) (state : StateView) (c : PlainCommand) where
   pub total : (outcome : Outcome StateView Refusal) × Step given large state c outcome
-  total = total_step some_arrives given large state c
+  total = total_step repo_reads some_arrives given large state c
 
   pub refuses : (refusal : Refusal) → Refuses large (case_of given.now state c) (Some refusal) → Step given large state c (refused state refusal)
-  refuses = refuses_step some_arrives given large state c
+  refuses = refuses_step repo_reads some_arrives given large state c
 
   module _ (outcome : Outcome StateView Refusal) where
     pub valid : Valid state → Step given large state c outcome → Valid outcome.state
@@ -53,4 +55,4 @@ pub knows : (now : ℤ) (large : Option (List ℕ)) (state : StateView) (c : Pla
 knows = knows_step repo_law
 
 pub readable : (now : ℤ) (state : StateView) (c : PlainCommand) → IsReadable (read_for now state c)
-readable = cases.readable
+readable = cases.readable repo_reads

@@ -1,21 +1,21 @@
 -- Why a command is refused.
-use Rattle.std.specs.Prelude.{◌≡◌, ◌⊎◌, ℕ, ℤ, List, Option, Contains}
+use Rattle.std.specs.Prelude.{◌≡◌, ◌⊎◌, ℕ, ℤ, List, Option}
 use Rattle.command_words.specs.Plain.{PlainCommand}
 use Rattle.machine_state.specs.declared.refusal.Refusal.{Refusal}
 use Rattle.machine_state.specs.declared.refusal.Refusal.TheVariants.{NotBuilt}
 use Rattle.machine_state.specs.Values.{StateView}
-use Rattle.step_model.specs.Case.{Condition, unbuilt}
+use Rattle.step_model.specs.Case.{unbuilt}
 use Rattle.step_model.specs.Lawful.{IsOwn}
-use Rattle.step_model.specs.Refuses.{IsToldOf}
+use Rattle.step_model.specs.Refuses.{IsPatternRefusal}
 use Rattle.machine_step.specs.Step.{case_of}
 
 -- the command isn't built: at no moment, in no state
 abbrev pub IsUnbuilt : PlainCommand → Type 0
 IsUnbuilt command = (now : ℤ) (state : StateView) → case_of now state command ≡ unbuilt
 
--- a condition of the command can't be built, which is told so
+-- the first of the command's conditions that can't be built is told
 abbrev pub TellsPattern : ℤ → Option (List ℕ) → StateView → PlainCommand → Refusal → Type 0
-TellsPattern now large state command refusal = (condition : Condition) × Contains (case_of now state command).conditions condition × IsToldOf large condition refusal
+TellsPattern now large state command refusal = IsPatternRefusal large (case_of now state command).conditions refusal
 
 -- The refusal is one of the command's own, or of a command that isn't built, or of one of its patterns, in a call whose pattern builder
 -- refused this text for its size.

@@ -1,5 +1,5 @@
 -- One step of the machine: what a command comes to in a state.
-use Rattle.std.specs.Prelude.{◌≡◌, ◌≤◌, ℕ, ℤ, List, [], ◌∷◌, Option, None, length}
+use Rattle.std.specs.Prelude.{◌≡◌, ℕ, ℤ, List, [], ◌∷◌, Option, None}
 use Rattle.ap_host.specs.Disk.{Files}
 use Rattle.package_core.specs.Card.{Card}
 use Rattle.run_model.specs.Run.{Outcome}
@@ -57,12 +57,6 @@ abbrev pub MayArrive : Given → Option (List ℕ) → StateView → Reading →
 MayArrive given large state readings.Nothing arrived = arrived ≡ arrivals.Nothing
 MayArrive given large state (readings.Folder name folder) arrived = IsArrival given.inbox state name folder arrived
 MayArrive given large state (readings.Mirror name) arrived = ⊥
-
--- what can be read so far: nothing of a mirror, and of folders those whose path has at most 200 bytes
-abbrev pub IsReadable : Reading → Type 0
-IsReadable readings.Nothing = Unit {0}
-IsReadable (readings.Folder name folder) = length folder ≤ 200
-IsReadable (readings.Mirror name) = ⊥
 
 abbrev pub refused : StateView → Refusal → Outcome StateView Refusal
 refused = steps.refused refusal_line

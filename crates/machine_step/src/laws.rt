@@ -11,7 +11,8 @@ ghost use Rattle.reply_text.specs.Refusals.{refusal_line};
 ghost use Rattle.step_model.specs.Lawful.{IsFrom};
 ghost use Rattle.step_model.specs.Refuses.{Refuses};
 ghost use Rattle.machine_step.specs.Causes.{IsCause, IsUnbuilt};
-ghost use Rattle.machine_step.specs.Step.{case_of, Given, IsReadable, read_for, refused, Step, StepWith};
+ghost use Rattle.step_model.specs.Refuses.{IsReadable};
+ghost use Rattle.machine_step.specs.Step.{case_of, Given, read_for, refused, Step, StepWith};
 
 use local_repo::{arrivals_fit, repo_cases_are_lawful};
 

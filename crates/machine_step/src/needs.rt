@@ -32,7 +32,7 @@ pub fn need<M: Patterns>(
     ensures kept { KeepsText (M.refused patterns.old) (M.refused patterns.new) result }
 {
     match family_of(command) {
-        Family::Repo => needs(alloc, state, command),
+        Family::Repo => needs(alloc, state, command, patterns),
         Family::Other => package_needs(alloc, command, patterns),
         _ => Err(ChangeFault::Refused(Refusal::NotBuilt)),
     }

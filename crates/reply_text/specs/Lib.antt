@@ -1,3 +1,6 @@
 pub mod Words
 pub mod Refusals
 pub mod Replies
+pub mod Mirrors
+pub mod Snapshots
+pub mod Publications

@@ -42,9 +42,12 @@ settings_lines repo =
 unfoldable pub repo_show : Repo → Bool → List ℕ
 repo_show repo with_packages = settings_lines repo ++ packages_line (length repo.list) ++ (if with_packages then triple_lines repo.list else [])
 
--- ` * local [3]`
-unfoldable pub repo_line : Repo → List ℕ
-repo_line repo = line (codes " * " ++ (repo.name ++ (codes " [" ++ (decimal (length repo.list) ++ codes "]"))))
+-- ` * local [3]`: something that is listed, and how many packages it has
+unfoldable pub listed_line : List ℕ → ℕ → List ℕ
+listed_line name packages = line (codes " * " ++ (name ++ (codes " [" ++ (decimal packages ++ codes "]"))))
+
+abbrev pub repo_line : Repo → List ℕ
+repo_line repo = listed_line repo.name (length repo.list)
 
 -- a line for each repository, in their order
 unfoldable pub repo_lines : List Repo → List ℕ

@@ -6,7 +6,7 @@ ghost use Rattle.reply_text.specs.Words.{kind_word as word_of_kind, limit_word a
 ghost use Rattle.reply_text.specs.Refusals.{refusal_text as text_of_refusal, refusal_line as line_of_refusal, usage_line as line_of_usage};
 
 use crate::put::whole_line;
-use crate::words::{kind_word, limit_word, prefix_word, shown, what_word};
+use crate::words::{kind_word, limit_word, place_text, prefix_word, shown, what_word};
 use ap_text::{Name, SafePath};
 use control_stanza::Text;
 use digest_set::{Digits, What};
@@ -51,13 +51,6 @@ fn not_updated(alloc: Global, name: &Name) -> Result<String, AllocError>
     format!(in alloc; "mirror {} was never updated", name.as_str())
 }
 
-/// A publication: its prefix and its distribution.
-fn publication(alloc: Global, prefix: &Option<SafePath>, dist: &Name) -> Result<String, AllocError>
-    ensures { IfOk result (λ made. string_bytes made ≡ word_of_prefix prefix.now ++ (codes " " ++ dist.now)) }
-{
-    format!(in alloc; "{} {}", prefix_word(prefix), dist.as_str())
-}
-
 fn in_use(
     alloc: Global,
     kind: Kind,
@@ -67,7 +60,7 @@ fn in_use(
 ) -> Result<String, AllocError>
     ensures { IfOk result (λ made. string_bytes made ≡ word_of_kind kind ++ (codes " " ++ (name.now ++ (codes " is used by " ++ (word_of_prefix prefix.now ++ (codes " " ++ dist.now)))))) }
 {
-    let user = publication(alloc, prefix, dist)?;
+    let user = place_text(alloc, prefix, dist)?;
     format!(in alloc;
         "{} {} is used by {}",
         kind_word(kind),

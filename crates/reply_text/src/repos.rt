@@ -1,14 +1,12 @@
 //! The replies of commands on local repositories.
-ghost use Rattle.std.specs.Prelude.{◌≡◌, ◌++◌, IfOk, OnOk, string_bytes, [], unwrap_or, if◌then◌else◌};
-ghost use Rattle.reply_text.specs.Replies.{repo_created as created, repo_added as added_to, repo_show as shown, repo_line, repo_lines, repo_list as listed, settings_lines, triple_lines};
+ghost use Rattle.std.specs.Prelude.{◌≡◌, ◌++◌, IfOk, OnOk, string_bytes, [], unwrap_or};
+ghost use Rattle.reply_text.specs.Replies.{repo_created as created, repo_added as added_to, repo_show as shown, repo_lines, repo_list as listed, settings_lines};
 
-use crate::put::{put_count, put_line, put_setting, put_triples, whole_line};
+use crate::put::{put_asked, put_count, put_line, put_listed, put_setting, whole_line};
 use ap_text::Name;
 use control_stanza::Text;
 use machine_state::{Repo, State};
-use package_list::PackageList;
 use std::alloc::{AllocError, Global};
-use std::fmt::Write;
 
 /// The reply to a repository's making: `Repo <name> created.` Fails only for want of memory.
 #[tactic(auto, unfolding(crate::specs::Replies::repo_created))]
@@ -53,20 +51,6 @@ fn put_settings(out: &mut String, repo: &Repo) -> Result<(), AllocError>
     put_line(out, "Component: ", repo.component.as_str())
 }
 
-fn put_asked(
-    alloc: Global,
-    out: &mut String,
-    list: &PackageList,
-    asked: bool,
-) -> Result<(), AllocError>
-    ensures { OnOk result (string_bytes out.new ≡ string_bytes out.old ++ (if asked then triple_lines list.now else [])) }
-{
-    if asked {
-        return put_triples(alloc, out, list.as_slice());
-    }
-    Ok(())
-}
-
 /// The reply of `repo show`: the lines `Name: <name>`, `Comment:`, `Distribution:`, `Component: <name>` and `Packages: <n>`,
 /// a comment or distribution that is there behind a blank, and then, where the packages are asked for, a blank and
 /// `name_version_arch` for each in the order of the list. Fails only for want of memory.
@@ -81,24 +65,12 @@ pub fn repo_show(alloc: Global, repo: &Repo, with_packages: bool) -> Result<Text
     Text::new(alloc, out.as_str())
 }
 
-#[tactic(auto, unfolding(crate::specs::Replies::repo_line, crate::specs::Words::line), using(std::proofs::Common::append_assoc))]
-fn put_repo(out: &mut String, repo: &Repo) -> Result<(), AllocError>
-    ensures { OnOk result (string_bytes out.new ≡ string_bytes out.old ++ repo_line repo.now) }
-{
-    out.push_str(" * ")?;
-    out.push_str(repo.name.as_str())?;
-    out.push_str(" [")?;
-    write!(out, "{}", repo.list.len())?;
-    out.push_str("]\n")?;
-    Ok(())
-}
-
 #[tactic(auto, unfolding(crate::specs::Replies::repo_lines))]
 fn put_repos(out: &mut String, repos: &[Repo]) -> Result<(), AllocError>
     ensures { OnOk result (string_bytes out.new ≡ string_bytes out.old ++ repo_lines repos.now) }
 {
     for repo in repos {
-        put_repo(out, repo)?;
+        put_listed(out, &repo.name, repo.list.len())?;
     }
     Ok(())
 }

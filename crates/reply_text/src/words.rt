@@ -1,8 +1,8 @@
 //! The words of the lines that are said.
 ghost use Rattle.std.specs.Prelude.{◌≡◌, IfOk, string_bytes};
-ghost use Rattle.reply_text.specs.Words.{kind_word as word_of_kind, limit_word as word_of_limit, what_word as word_of_fact, prefix_word as word_of_prefix, shown_char as shown_as, shown as shown_text};
+ghost use Rattle.reply_text.specs.Words.{kind_word as word_of_kind, limit_word as word_of_limit, what_word as word_of_fact, prefix_word as word_of_prefix, place_text as place_text_of, shown_char as shown_as, shown as shown_text};
 
-use ap_text::SafePath;
+use ap_text::{Name, SafePath};
 use digest_set::What;
 use machine_state::{Kind, Limit};
 use std::alloc::{AllocError, Global};
@@ -57,6 +57,17 @@ pub(crate) fn prefix_word(prefix: &Option<SafePath>) -> &str
         None => ".",
         Some(path) => path.as_str(),
     }
+}
+
+/// A publication: its prefix and its distribution.
+pub(crate) fn place_text(
+    alloc: Global,
+    prefix: &Option<SafePath>,
+    dist: &Name,
+) -> Result<String, AllocError>
+    ensures { IfOk result (λ made. string_bytes made ≡ place_text_of prefix.now dist.now) }
+{
+    format!(in alloc; "{} {}", prefix_word(prefix), dist.as_str())
 }
 
 fn shown_char(c: char) -> char

@@ -3,3 +3,4 @@ pub mod PatternLemmas
 pub mod QueryLemmas
 pub mod StepLemmas
 pub mod FaultLemmas
+pub mod AskingLemmas

@@ -22,7 +22,7 @@ is_built case e none = none_some NotBuilt (sym none ∙ ap (λ (c : Case). c.ear
 
 -- all that is known is from what was known
 pub from_known : (state : StateView) (arrived : Arrived) → IsFrom state arrived state
-from_known state arrived k d l = inl (All-contains_itself state.known k d l)
+from_known state arrived = (λ k d l. inl (All-contains_itself state.known k d l), λ none. none)
 
 module _ (line : Refusal → List ℕ) where
   -- what a call of a family comes to is a step

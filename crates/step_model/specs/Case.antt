@@ -77,3 +77,8 @@ bad_behind before (query ∷ queries) = or_else (bad_query (suc before) query) (
 -- the first of the queries of a command that is none
 abbrev pub bad_queries : List (List ℕ) → Option Refusal
 bad_queries queries = bad_behind 0 (map query_of queries)
+
+-- a command of these queries that reads nothing
+abbrev pub asking_case : Option Refusal → List (List ℕ) → Came → Case
+asking_case early queries came =
+    record { early = or_else early (bad_queries queries); conditions = conditions_of queries; late = None; reads = Nothing; comes = λ arrived. came }

@@ -1,12 +1,12 @@
 -- Why a command is refused before anything is read for it.
-use Rattle.std.specs.Prelude.{◌≡◌, ℕ, List, ◌∷◌, ◌++◌, All, Option, Some, None, if◌then◌else◌}
+use Rattle.std.specs.Prelude.{◌≡◌, ◌≤◌, ℕ, List, ◌∷◌, ◌++◌, length, All, Option, Some, None, if◌then◌else◌}
 use Rattle.std.specs.Option.{is_some}
 use Rattle.query_eval.specs.Build.{IsNoPattern}
 use Rattle.query_eval.specs.Conditions.{IsPattern}
 use Rattle.machine_state.specs.declared.refusal.Refusal.{Refusal}
 use Rattle.machine_state.specs.declared.refusal.Refusal.TheVariants.{BadPattern, PatternTooLarge}
 use Rattle.step_model.specs.declared.reading.Reading.{Reading}
-use Rattle.step_model.specs.declared.reading.Reading.TheVariants.{Nothing}
+use Rattle.step_model.specs.declared.reading.Reading.TheVariants.{Nothing, Folder, Mirror}
 use Rattle.step_model.specs.Case.{Case, Condition, or_else}
 
 -- The condition is told: as no pattern, where it is none or nested too deep; as too large, where the pattern builder of the call refused
@@ -44,3 +44,9 @@ pub record Refuses (large : Option (List ℕ)) (case : Case) (refusal : Option R
 -- what is read for a command whose patterns are built: nothing for one that is refused by its words or by what is there
 abbrev pub reading : Case → Reading
 reading case = if is_some (or_else case.early case.late) then Nothing else case.reads
+
+-- what can be read so far: nothing of a mirror, and of folders those whose path has at most 200 bytes
+abbrev pub IsReadable : Reading → Type 0
+IsReadable Nothing = Unit {0}
+IsReadable (Folder name folder) = length folder ≤ 200
+IsReadable (Mirror name) = ⊥

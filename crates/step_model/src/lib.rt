@@ -8,5 +8,7 @@ mod reading;
 
 pub use laws::cases_are_stepped;
 pub use names::{folder_of, name_of};
-pub use queries::{found_in, prepare_queries, prepared, read_queries};
+pub use queries::{
+    chosen_in, found_in, prepare_queries, prepared, prepared_all, read_queries, without_of,
+};
 pub use reading::Reading;

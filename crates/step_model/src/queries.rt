@@ -1,16 +1,19 @@
 //! The queries of a command: read, prepared, and asked of packages.
-ghost use Rattle.std.specs.Prelude.{◌≡◌, ◌≤◌, ◌∷◌, [], map, IfOk, IfErr, OnOk, None, Some, Ok};
+ghost use Rattle.std.specs.Prelude.{◌≡◌, ◌≤◌, ◌∷◌, ℕ, List, [], map, IfOk, IfErr, OnOk, None, Some, Ok};
 ghost use Rattle.std.specs.List.{filter};
+ghost use Rattle.package_list.specs.Lists.{without};
 ghost use Rattle.query_tree.specs.Tree.{plain, plains};
 ghost use Rattle.query_grammar.specs.Said.{query_of};
 ghost use Rattle.query_eval.specs.Conditions.{patterns_of};
 ghost use Rattle.query_eval.specs.Truth.{matches};
 ghost use Rattle.step_model.specs.Answers.{AreBuilt, FaultIs, IsFirst, KeepsText, QueriesRefuse, Told};
 ghost use Rattle.step_model.specs.Case.{bad_query, bad_queries, conditions_behind, numbered};
+ghost use Rattle.step_model.specs.Queries.{chosen, some_true};
 ghost use Rattle.step_model.specs.Refuses.{IsPick};
 
 use control_stanza::Text;
 use machine_state::{ChangeFault, Refusal};
+use package_core::Package;
 use package_list::PackageList;
 use query_eval::{EvalFault, Patterns, Prepared};
 use query_grammar::{Query, QueryFault, read_query};
@@ -113,6 +116,25 @@ pub fn prepared<M: Patterns>(
     built(alloc, &query, 1, patterns)
 }
 
+/// The queries of a command, read and with their patterns built, in their order. All are read before the first pattern is built:
+/// the first text that spells no query is refused with its number, counted from 1, and the place of its fault; and else the first
+/// `~` condition that can't be built.
+pub fn prepared_all<M: Patterns>(
+    alloc: Global,
+    texts: &[Text],
+    patterns: &mut M,
+) -> Result<Vec<Prepared>, ChangeFault>
+    ensures same { IfOk result (λ made. map query_of texts.now ≡ map Ok made.items) }
+    ensures good { OnOk result (AreBuilt texts.now) }
+    ensures fault { IfErr result (FaultIs (λ refusal. Told (M.refusals patterns.old) (M.refusals patterns.new) (M.refused patterns.new) (λ large. QueriesRefuse large texts.now refusal))) }
+    ensures never_falls { M.refusals patterns.old ≤ M.refusals patterns.new }
+    // Which text was refused for its size changes only where such a pattern is told.
+    ensures kept { KeepsText (M.refused patterns.old) (M.refused patterns.new) result }
+{
+    let queries = read_queries(alloc, texts)?;
+    prepare_queries(alloc, &queries, patterns)
+}
+
 /// The members of which the query is true, in the order of the list. Fails only for want of memory.
 pub fn found_in(
     alloc: Global,
@@ -129,4 +151,52 @@ pub fn found_in(
         }
     }
     Ok(PackageList::from_ascending(found))
+}
+
+/// Whether some of the queries is true of the package. Fails only for want of memory.
+fn is_any_true(alloc: Global, asked: &[Prepared], candidate: &Package) -> Result<bool, AllocError>
+    ensures { IfOk result (λ b. b ≡ some_true asked.now candidate.now) }
+{
+    for query in asked {
+        if query.matches(alloc, candidate)? {
+            return Ok(true);
+        }
+    }
+    Ok(false)
+}
+
+/// The members of which some query of a command is true, in the order of the list. Fails only for want of memory.
+pub fn chosen_in(
+    alloc: Global,
+    list: &PackageList,
+    asked: &[Prepared],
+) -> Result<PackageList, AllocError>
+    ensures { (queries : List (List ℕ)) → map query_of queries ≡ map Ok asked.now → IfOk result (λ found. found ≡ chosen list.now queries) }
+{
+    list.members_ascend();
+    let mut found = Vec::new(alloc);
+    for candidate in list.as_slice() {
+        if is_any_true(alloc, asked, candidate.package())? {
+            found.push(candidate.clone()?)?;
+        }
+    }
+    Ok(PackageList::from_ascending(found))
+}
+
+/// The members that the other list hasn't, in their order, by a search by halves for each. Fails only for want of memory.
+pub fn without_of(
+    alloc: Global,
+    list: &PackageList,
+    gone: &PackageList,
+) -> Result<PackageList, AllocError>
+    ensures { IfOk result (λ left. left ≡ without list.now gone.now) }
+{
+    list.members_ascend();
+    let mut left = Vec::new(alloc);
+    for candidate in list.as_slice() {
+        if !gone.has(candidate.package()) {
+            left.push(candidate.clone()?)?;
+        }
+    }
+    Ok(PackageList::from_ascending(left))
 }

@@ -2,7 +2,8 @@ use Rattle.std.proofs.Common.{refl, sym, subst, ◌∙◌}
 use Rattle.ap_host.proofs.ChangeLemmas.{GoesOn-map, GoesOn-none}
 use Rattle.machine_state.specs.declared.arrived.Arrived.TheVariants as arrivals
 use Rattle.step_model.specs.declared.reading.Reading.{Reading}
-use Rattle.machine_step.specs.Step.{IsReadable, MayArrive, giving}
+use Rattle.step_model.specs.Refuses.{IsReadable}
+use Rattle.machine_step.specs.Step.{MayArrive, giving}
 use Rattle.aptly_core.proofs.DecideLemmas.{arrives_nothing, arrives_added, arrived_may, folder_may}
 use Rattle.aptly_core.proofs.decide.arrive.Goals as goal
 

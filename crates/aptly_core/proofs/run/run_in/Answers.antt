@@ -17,7 +17,7 @@ use Rattle.catalogue_root.proofs.CommitLemmas.{rest_valid}
 use Rattle.catalogue_root.proofs.SaveLemmas.{saving_commits}
 use Rattle.aptly_core.proofs.Lawful.{keeps}
 use Rattle.aptly_core.proofs.GrowLemmas.{taking_work}
-use Rattle.aptly_core.proofs.RunLemmas.{made, runs_err, broke_taking, quietly, say_broke, saved_work, taken_work, all_grows, all_rests, Decided, decided_then_saved, runs_ok}
+use Rattle.aptly_core.proofs.RunLemmas.{next_held, made, runs_err, broke_taking, quietly, say_broke, saved_work, taken_work, all_grows, all_rests, Decided, decided_then_saved, runs_ok}
 use Rattle.aptly_core.proofs.run.run_in.Goals as goal
 
 pub returns-in_err-outcome-clause-log : goal.returns-in_err-outcome-clause-log
@@ -42,7 +42,7 @@ returns-in_err-save-clause-log g c =
     runs_err given _ s cmd before now _ e.0 l (p ++ a) e.1 (taken_work l (extended p l) p a d.grows (saving_commits out.state (extended p l) a w.only)) (λ may.
     let valid = rest_valid s l may.rest in
     let step = c.in_ok-outcome.ensures.comes valid in
-    let next = keeps given step.0 s cmd (made s out) valid step.2 in
+    let next = next_held given l s cmd step.0 (made s out) may.rest step.2 in
     (step.0, step.1, quietly given step.0 l s cmd (made s out) step.2 out.state refl c.in_ok-outcome.ensures.kept (c.in_ok-outcome.ensures.changed valid) p d.grows (d.nothing valid) mid now _ a w (all_grows given l s cmd before mid out p d may next now _ a w))))
 
 pub returns-in_err-say-clause-log : goal.returns-in_err-say-clause-log
@@ -69,7 +69,7 @@ returns-in_err-say-clause-log g c =
     runs_err given Told s cmd before now c.from_residual-in_err-say.result e.0 l ((p ++ a) ++ b) e.1 (saved_work l (extended p l) p a d.grows (saving_commits out.state (extended p l) a w.only) out.reply c.say.result b did) (λ may.
     let valid = rest_valid s l may.rest in
     let step = c.in_ok-outcome.ensures.comes valid in
-    let next = keeps given step.0 s cmd (made s out) valid step.2 in
+    let next = next_held given l s cmd step.0 (made s out) may.rest step.2 in
     (step.0, step.1, say_broke given step.0 l s cmd (made s out) step.2 out.state refl c.in_ok-outcome.ensures.kept (c.in_ok-outcome.ensures.changed valid) p d.grows (d.nothing valid) mid now _ a w (all_grows given l s cmd before mid out p d may next now _ a w) (Unit {0}) _ b (all_rests given l s cmd before mid out p d may next now _ a w tt refl) (subst (λ v. Did (Say out.reply) v b) c.in_err-say.was did)))))
 
 pub returns-clause-comes : goal.returns-clause-comes

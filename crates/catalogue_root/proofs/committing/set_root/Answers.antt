@@ -9,7 +9,7 @@ use Rattle.machine_state.specs.Values.{StateView}
 use Rattle.catalogue_text.specs.Root.{root_text}
 use Rattle.catalogue_root.specs.Commits.{IsCommitting}
 use Rattle.catalogue_root.specs.Store.{root}
-use Rattle.catalogue_root.proofs.CommitLemmas.{laid_so, setting, set_so, barred, committed, committed_rest, lays_committing, lays_target, lay_phase, set_holds, set_nothing, rest_valid, rename_committing, rename_sets, barriers_each, barriers_target, sets_then, sets_before, once_of, sets_err, Set}
+use Rattle.catalogue_root.proofs.CommitLemmas.{laid_so, setting, set_so, barred, committed, committed_rest, lays_committing, lays_target, lay_phase, set_holds, set_nothing, rest_held, rename_committing, rename_sets, barriers_each, barriers_target, sets_then, sets_before, once_of, sets_err, Set}
 use Rattle.catalogue_root.proofs.committing.set_root.Goals as goal
 
 pub returns-in_err-root-clause-log : goal.returns-in_err-root-clause-log
@@ -21,7 +21,7 @@ pub returns-in_err-name-clause-log : goal.returns-in_err-name-clause-log
 returns-in_err-name-clause-log g c =
     let e = err_from_is_err_and c.from_residual-in_err-name.result c.from_residual-in_err-name.ensures.1 in
     let n = c.args.stage.now.next in
-    GoesOn-map _ _ _ _ c.lay.ensures.log (λ l a lays s t is. sets_err s t _ e.0 l a e.1 (lays_committing l n a lays.only) (inl (lays_target (stage_path n) a lays.only)) (λ may. lay_phase s t (rest_valid s l may.rest) may.valid n l a (set_holds s t l may) lays.only))
+    GoesOn-map _ _ _ _ c.lay.ensures.log (λ l a lays s t is. sets_err s t _ e.0 l a e.1 (lays_committing l n a lays.only) (inl (lays_target (stage_path n) a lays.only)) (λ may. lay_phase s t (rest_held s l may.rest) may.held n l a (set_holds s t l may) lays.only))
 
 pub returns-in_err-place-clause-log : goal.returns-in_err-place-clause-log
 returns-in_err-place-clause-log g c =

@@ -1,7 +1,7 @@
 use Rattle.std.proofs.Common.{ap, ◌∙◌}
 use Rattle.std.specs.Ordering.{nat_cmp}
 use Rattle.std.specs.Cmp.Lexicographic.{slice_cmp}
-use Rattle.catalogue_text.proofs.ReadLemmas.{follows_last}
+use Rattle.catalogue_text.proofs.NameLemmas.{follows_last}
 use Rattle.catalogue_text.proofs.names.follows.Goals as goal
 
 pub returns-in-Some : goal.returns-in-Some

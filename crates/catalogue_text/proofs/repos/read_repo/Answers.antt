@@ -5,7 +5,8 @@ use Rattle.catalogue_text.specs.Grammar.{IsNext}
 use Rattle.catalogue_text.proofs.Parts.{stops_line}
 use Rattle.catalogue_text.proofs.RootParts.{IsDistribution, IsComponent}
 use Rattle.catalogue_text.proofs.ValueLemmas.{at_default, at_some}
-use Rattle.catalogue_text.proofs.ReadLemmas.{at_name, past_name, at_comment, past_comment, at_distribution, past_distribution, at_component, past_component, at_set, repo_read, not_next, if_before}
+use Rattle.catalogue_text.proofs.NameLemmas.{not_next}
+use Rattle.catalogue_text.proofs.ReadLemmas.{at_name, past_name, at_comment, past_comment, at_distribution, past_distribution, at_component, past_component, at_set, repo_read, if_before}
 use Rattle.catalogue_text.proofs.repos.read_repo.Goals as goal
 
 pub returns-in_default-clause-stops : goal.returns-in_default-clause-stops

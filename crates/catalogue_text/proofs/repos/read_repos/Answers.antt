@@ -1,18 +1,15 @@
-use Rattle.catalogue_text.proofs.ReadLemmas.{repos_first, repos_count, repos_rest, repos_read, if_ok, if_stop}
+use Rattle.catalogue_text.proofs.ReadLemmas.{repos_count, repos_rest, repos_read, if_ok, if_stop}
 use Rattle.catalogue_text.proofs.repos.read_repos.Goals as goal
 
 pub returns-in_default-clause-stops : goal.returns-in_default-clause-stops
-returns-in_default-clause-stops c = λ apart. repos_first c.args.known.now.list c.args.text.now c.in_default.ensures
-
-pub returns-in_default-count_line-clause-stops : goal.returns-in_default-count_line-clause-stops
-returns-in_default-count_line-clause-stops c = λ apart. repos_count c.args.known.now.list c.args.text.now c.in-Some.rest.now c.number-most.result c.in-Some.ensures c.number-most.ensures c.in_default-count_line.ensures
+returns-in_default-clause-stops c = λ apart. repos_count c.args.known.now.list c.args.text.now c.number-most.result c.number-most.ensures c.in_default.ensures
 
 pub returns-clause-read : goal.returns-clause-read
 returns-clause-read c =
-    let n = c.in-Some-count_line.ensures in
-    if_ok _ _ (λ p r. repos_read c.args.known.now.list c.args.text.now c.in-Some.rest.now c.in-Some-count_line.rest.now c.in-Some-count_line.count c.number-most.result c.in-Some.ensures c.number-most.ensures n.0 n.1 p.0.items p.1.now r) c.read_each.result c.read_each.ensures.read
+    let n = c.in-Some.ensures in
+    if_ok _ _ (λ p r. repos_read c.args.known.now.list c.args.text.now c.in-Some.rest.now c.in-Some.count c.number-most.result c.number-most.ensures n.0 n.1 p.0.items p.1.now r) c.read_each.result c.read_each.ensures.read
 
 pub returns-clause-stops : goal.returns-clause-stops
 returns-clause-stops c =
-    let n = c.in-Some-count_line.ensures in
-    if_stop _ _ (λ left s apart. repos_rest c.args.known.now.list c.args.text.now c.in-Some.rest.now c.in-Some-count_line.rest.now c.in-Some-count_line.count c.number-most.result left c.in-Some.ensures c.number-most.ensures n.0 n.1 (s apart)) c.read_each.result c.read_each.ensures.stops
+    let n = c.in-Some.ensures in
+    if_stop _ _ (λ left s apart. repos_rest c.args.known.now.list c.args.text.now c.in-Some.rest.now c.in-Some.count c.number-most.result left c.number-most.ensures n.0 n.1 (s apart)) c.read_each.result c.read_each.ensures.stops

@@ -1,20 +1,22 @@
-use Rattle.catalogue_text.proofs.ReadLemmas.{no_member, place_inside, joins, joins_not}
+use Rattle.std.proofs.Common.{refl}
+use Rattle.catalogue_text.specs.Root.{id_of}
+use Rattle.catalogue_text.proofs.ReadLemmas.{place_inside, joins, joins_not}
 use Rattle.catalogue_text.proofs.sets.next_member.Goals as goal
 
-pub returns-in_default-place_of : goal.returns-in_default-place_of
-returns-in_default-place_of c = λ apart. no_member c.args.known.now.list c.args.list.now c.args.text.now c.in-Some.id.now c.in-Some.rest.now c.place_of.result c.place_of.ensures c.in_default-place_of.not-Some c.in-Some.ensures
+pub returns-in_default : goal.returns-in_default
+returns-in_default c = λ apart a behind m l. c.in_default.ensures a behind m.known_is l
 
 pub push_of-requires : goal.push_of-requires
-push_of-requires c = place_inside c.args.known.now.list c.in-Some.id.now c.in-Some-place_of.place c.in-Some-place_of.ensures
+push_of-requires c = let m = c.in-Some.ensures in place_inside c.args.known.now.list (id_of m.0) c.in-Some.place (m.0, m.1, refl)
 
 pub returns-then-branch : goal.returns-then-branch
 returns-then-branch c =
-    let h = c.in-Some-place_of.ensures in
-    joins c.args.known.now.list c.args.list.now c.push_of.new.self c.args.text.now c.in-Some.id.now c.in-Some.rest.now c.in-Some-place_of.place c.in_ok-push_of.field-0 h c.requires.sorted c.if-branch.true
-    (c.in_ok-push_of.ensures.answer h.0 h.1) (c.in_ok-push_of.ensures.list h.0 h.1) c.in-Some.ensures
+    let m = c.in-Some.ensures in
+    joins c.args.known.now.list c.args.list.now c.push_of.new.self c.args.text.now (id_of m.0) c.in-Some.rest.now c.in-Some.place c.in_ok-push_of.field-0 (m.0, m.1, refl) c.requires.sorted c.if-branch.true
+    (c.in_ok-push_of.ensures.answer m.0 m.1) (c.in_ok-push_of.ensures.list m.0 m.1) m.2
 
 pub returns-else-branch : goal.returns-else-branch
 returns-else-branch c = λ apart.
-    let h = c.in-Some-place_of.ensures in
-    joins_not c.args.known.now.list c.args.list.now c.args.text.now c.in-Some.id.now c.in-Some.rest.now c.in-Some-place_of.place c.in_ok-push_of.field-0 h c.requires.sorted c.if-branch.false
-    (c.in_ok-push_of.ensures.answer h.0 h.1) c.in-Some.ensures apart
+    let m = c.in-Some.ensures in
+    joins_not c.args.known.now.list c.args.list.now c.args.text.now (id_of m.0) c.in-Some.rest.now c.in-Some.place c.in_ok-push_of.field-0 (m.0, m.1, refl) c.requires.sorted c.if-branch.false
+    (c.in_ok-push_of.ensures.answer m.0 m.1) m.2 apart

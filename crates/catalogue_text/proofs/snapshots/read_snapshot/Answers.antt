@@ -4,7 +4,8 @@ use Rattle.catalogue_text.specs.Root.{snapshot_line}
 use Rattle.catalogue_text.specs.Grammar.{IsNext}
 use Rattle.catalogue_text.proofs.Parts.{stops_line}
 use Rattle.catalogue_text.proofs.ValueLemmas.{at_default, at_some}
-use Rattle.catalogue_text.proofs.ReadLemmas.{at_title, past_title, snapshot_read, not_next, if_before}
+use Rattle.catalogue_text.proofs.NameLemmas.{not_next}
+use Rattle.catalogue_text.proofs.ReadLemmas.{at_title, past_title, snapshot_read, if_before}
 use Rattle.catalogue_text.proofs.snapshots.read_snapshot.Goals as goal
 
 pub returns-in_default-clause-stops : goal.returns-in_default-clause-stops

@@ -1,8 +1,7 @@
 use Rattle.std.proofs.Common.{codes, sym, ◌∙◌, subst}
 use Rattle.machine_state.specs.State.{IsLineText}
 use Rattle.catalogue_text.specs.Root.{blank_and}
-use Rattle.catalogue_text.proofs.RootParts.{settings_apart}
-use Rattle.catalogue_text.proofs.ValueLemmas.{no_key, no_value, at_none}
+use Rattle.catalogue_text.proofs.ValueLemmas.{no_key, no_value, at_none, settings_apart}
 use Rattle.catalogue_text.proofs.values.comment_line.Goals as goal
 
 pub returns-in-None : goal.returns-in-None

@@ -1,8 +1,8 @@
 use Rattle.std.proofs.Common.{List, ℕ, [], Option, codes, sym, ◌∙◌}
 use Rattle.std.specs.Option.{unwrap_or}
 use Rattle.catalogue_text.specs.Root.{blank_and}
-use Rattle.catalogue_text.proofs.RootParts.{settings_apart, IsDistribution}
-use Rattle.catalogue_text.proofs.ValueLemmas.{no_key, no_value, at_none}
+use Rattle.catalogue_text.proofs.RootParts.{IsDistribution}
+use Rattle.catalogue_text.proofs.ValueLemmas.{no_key, no_value, at_none, settings_apart}
 use Rattle.catalogue_text.proofs.values.distribution_line.Goals as goal
 
 abbrev setting : Option (List ℕ) → List ℕ

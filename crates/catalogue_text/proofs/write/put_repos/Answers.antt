@@ -1,11 +1,11 @@
 use Rattle.std.proofs.Common.{string_bytes}
 use Rattle.std.specs.List.{flat_map}
 use Rattle.catalogue_text.specs.Root.{repo_pieces, repos_pieces, joined}
-use Rattle.catalogue_text.proofs.WriteLemmas.{on_ok, then_two}
+use Rattle.catalogue_text.proofs.WriteLemmas.{on_ok, then_one}
 use Rattle.catalogue_text.proofs.write.put_repos.Goals as goal
 
 pub returns : goal.returns
 unfolding repos_pieces
 returns c =
     on_ok c.put_each.result _ _
-    (λ h. then_two (string_bytes c.args.out.now) (string_bytes c.put_fixed.new.out) (string_bytes c.put_count.new.out) _ _ _ (joined (flat_map repo_pieces c.args.repos.now)) c.in_ok-put_fixed.ensures c.in_ok-put_count.ensures h) c.put_each.ensures
+    (λ h. then_one (string_bytes c.args.out.now) (string_bytes c.put_count.new.out) _ _ (joined (flat_map repo_pieces c.args.repos.now)) c.in_ok-put_count.ensures h) c.put_each.ensures

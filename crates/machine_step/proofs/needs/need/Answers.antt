@@ -7,7 +7,7 @@ use Rattle.step_model.specs.Case.{Case}
 use Rattle.step_model.specs.Refuses.{Refuses}
 use Rattle.step_model.proofs.RefusalLemmas.{refuses_first}
 use Rattle.machine_step.specs.Step.{case_of}
-use Rattle.machine_step.proofs.FamilyLemmas.{is_repo, is_other, case_of_repo, case_of_other, case_of_rest, keeps_same, none_told}
+use Rattle.machine_step.proofs.FamilyLemmas.{is_repo, is_other, case_of_repo, case_of_other, case_of_rest}
 use Rattle.machine_step.proofs.needs.need.Goals as goal
 
 pub returns-in-Repo-clause-ok : goal.returns-in-Repo-clause-ok
@@ -18,11 +18,8 @@ returns-in-Repo-clause-ok g c = λ now v.
 pub returns-in-Repo-clause-fault : goal.returns-in-Repo-clause-fault
 returns-in-Repo-clause-fault g c = λ now v.
     let r = is_repo (plain c.args.command.now) (sym c.family_of.ensures ∙ c.in-Repo.is) in
-    none_told _ _ _ (λ large refusal. Refuses large (case_of now c.args.state.now (plain c.args.command.now)) (Some refusal)) c.needs.result
-    (subst (λ (k : Case). IfErr c.needs.result (FaultIs (λ refusal. Refuses None k (Some refusal)))) (case_of_repo now c.args.state.now (plain c.args.command.now) r.0 r.1) (c.needs.ensures.fault r.0 r.1 v))
-
-pub returns-in-Repo-clause-kept : goal.returns-in-Repo-clause-kept
-returns-in-Repo-clause-kept g c = keeps_same _ c.needs.result
+    subst (λ (k : Case). IfErr c.needs.result (FaultIs (λ refusal. Told (g.M.Patterns.refusals c.args.patterns.now) (g.M.Patterns.refusals c.needs.new.patterns) (g.M.Patterns.refused c.needs.new.patterns) (λ large. Refuses large k (Some refusal)))))
+    (case_of_repo now c.args.state.now (plain c.args.command.now) r.0 r.1) (c.needs.ensures.fault r.0 r.1 v)
 
 pub returns-in-Other-clause-ok : goal.returns-in-Other-clause-ok
 returns-in-Other-clause-ok g c = λ now v.

@@ -1,6 +1,5 @@
-use Rattle.step_model.proofs.FaultLemmas.{at_exit}
+use Rattle.step_model.proofs.FaultLemmas.{at_exit, keeps_exit, told_fault}
 use Rattle.machine_step.proofs.AskingLemmas.{asking_refuses, asking_wanted}
-use Rattle.machine_step.proofs.FamilyLemmas.{keeps_exit, told_fault}
 use Rattle.machine_step.proofs.packages.asking_needs.Goals as goal
 
 pub returns-in_err-prepared-clause-fault : goal.returns-in_err-prepared-clause-fault

@@ -1,4 +1,4 @@
-use Rattle.machine_step.proofs.FamilyLemmas.{keeps_exit}
+use Rattle.step_model.proofs.FaultLemmas.{keeps_exit}
 use Rattle.machine_step.proofs.packages.found.Goals as goal
 
 pub returns-in_err-asked-clause-kept : goal.returns-in_err-asked-clause-kept

@@ -1,7 +1,6 @@
 use Rattle.reply_text.specs.Replies.{package_search}
-use Rattle.step_model.proofs.FaultLemmas.{at_exit}
+use Rattle.step_model.proofs.FaultLemmas.{at_exit, keeps_exit, told_fault}
 use Rattle.machine_step.proofs.AskingLemmas.{asking_comes, asking_refused}
-use Rattle.machine_step.proofs.FamilyLemmas.{keeps_exit, told_fault}
 use Rattle.machine_step.proofs.packages.search.Goals as goal
 
 pub returns-in_err-found-clause-fault : goal.returns-in_err-found-clause-fault

@@ -1,0 +1,17 @@
+use Rattle.std.proofs.Common.{codes, sym, ◌∙◌, subst}
+use Rattle.machine_state.specs.Texts.{IsDate}
+use Rattle.catalogue_text.specs.MirrorLines.{blank_and}
+use Rattle.catalogue_text.proofs.ValueLemmas.{no_key, no_value, at_none, settings_apart}
+use Rattle.catalogue_text.proofs.mirror_values.date_line.Goals as goal
+
+pub returns-in-None : goal.returns-in-None
+returns-in-None c = no_key blank_and IsDate c.args.text.now (codes "date") c.in-None.ensures
+
+pub returns-in-None-setting : goal.returns-in-None-setting
+returns-in-None-setting c =
+    no_value blank_and IsDate c.args.text.now (codes "date") c.in-Some.written.now c.in-Some.rest.now c.in-Some.ensures (λ a g. c.in-None-setting.ensures a)
+
+pub returns-in-None-2 : goal.returns-in-None-2
+returns-in-None-2 c =
+    no_value blank_and IsDate c.args.text.now (codes "date") c.in-Some.written.now c.in-Some.rest.now c.in-Some.ensures
+    (λ a g e. at_none _ _ _ c.in_ok-date_of-in-Some-setting.ensures c.in-None-2.is (subst IsDate (settings_apart a c.in-Some-setting.value.now (sym e ∙ c.in-Some-setting.ensures)) g))

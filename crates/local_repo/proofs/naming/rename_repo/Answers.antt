@@ -1,0 +1,5 @@
+use Rattle.local_repo.proofs.NameLemmas.{renamed_as}
+use Rattle.local_repo.proofs.naming.rename_repo.Goals as goal
+
+pub returns-in-Some : goal.returns-in-Some
+returns-in-Some c = λ a. renamed_as c.args.before.now c.args.after c.args.repos.now.items c.take_named.new.items.items c.put_named.new.items.items c.in-Some.repo c.put_named.result a (c.in-Some.ensures.taken a) (c.in-Some.ensures.rest a) c.put_named.ensures.put
