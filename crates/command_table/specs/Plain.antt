@@ -1,5 +1,6 @@
 -- Commands without where they lie in memory.
-use Rattle.std.specs.Prelude.{List, ℕ, Option, Bool, option_map}
+use Rattle.std.specs.Prelude.{◌||◌, List, ℕ, Option, Bool, option_map}
+use Rattle.std.specs.Option.{is_some}
 use Rattle.command_table.specs.declared.command.Follow.{Follow}
 use Rattle.command_table.specs.declared.command.Origin.{Origin}
 use Rattle.command_table.specs.declared.command.Command.{Command}
@@ -94,6 +95,10 @@ plain_follow f =
       recommends = f.recommends;
       suggests = f.suggests;
     }
+
+-- a flag of following is written
+abbrev pub follows : Option Bool → PlainFollow → Bool
+follows deps follow = is_some deps || (is_some follow.architectures || (is_some follow.recommends || is_some follow.suggests))
 
 -- the command as its clauses see it
 abbrev pub plain : Command → PlainCommand

@@ -6,7 +6,7 @@ use Rattle.std.specs.Bool.{if◌then◌else◌}
 use Rattle.std.specs.Prelude.{find}
 use Rattle.std.proofs.lemmas.List.{length-append}
 use Rattle.ap_text.specs.Names.{is_name}
-use Rattle.command_table.specs.Plain.{PlainFollow}
+use Rattle.command_table.specs.Plain.{PlainFollow, follows}
 use Rattle.package_core.specs.Card.{Card}
 use Rattle.machine_state.specs.declared.limit.Kind.{Kind}
 use Rattle.machine_state.specs.declared.limit.Kind.TheVariants as kinds
@@ -24,7 +24,7 @@ use Rattle.step_model.specs.Case.{Came, asking_case, bad_queries, or_else, unbui
 use Rattle.step_model.specs.Names.{bad_name, bad_folder, is_folder}
 use Rattle.step_model.specs.Lawful.{IsOwn}
 use Rattle.step_model.proofs.AskingLemmas.{own_queries}
-use Rattle.local_repo.specs.Cases.{bad_pair, bad_repo, chosen_of, follows, joining, pair_case, taken, unknown}
+use Rattle.local_repo.specs.Cases.{bad_pair, bad_repo, chosen_of, joining, pair_case, taken, unknown}
 use Rattle.local_repo.specs.Settings.{bad_comment, bad_component, bad_distribution, bad_settings, bad_word, if_written}
 use Rattle.local_repo.specs.Replies as own
 

@@ -13,7 +13,7 @@ use Rattle.package_list.specs.Answers.{append_answer}
 use Rattle.package_list.specs.Lists.{has_member, union, without}
 use Rattle.query_grammar.specs.Said.{query_of}
 use Rattle.machine_state.specs.declared.limit.Limit.TheVariants.{Packages}
-use Rattle.command_table.specs.Plain.{PlainFollow}
+use Rattle.command_table.specs.Plain.{PlainFollow, follows}
 use Rattle.machine_state.specs.declared.arrived.Arrived.{Arrived}
 use Rattle.machine_state.specs.declared.change.ChangeFault.{ChangeFault}
 use Rattle.machine_state.specs.declared.refusal.Refusal.{Refusal}
@@ -30,7 +30,7 @@ use Rattle.step_model.proofs.AskingLemmas.{asking_comes, asking_wanted, queries_
 use Rattle.step_model.proofs.FaultLemmas.{fault_map, first_decides}
 use Rattle.step_model.specs.Queries.{chosen, is_true_of}
 use Rattle.local_repo.specs.Arrival.{list_in, list_of}
-use Rattle.local_repo.specs.Cases.{IsJoinRefusal, added_reply, bad_pair, came_or, chosen_of, copying, follows, joining, listed, moved_reply, moving, pair_case, removal, with_list}
+use Rattle.local_repo.specs.Cases.{IsJoinRefusal, added_reply, bad_pair, came_or, chosen_of, copying, joining, listed, moved_reply, moving, pair_case, removal, with_list}
 use Rattle.local_repo.specs.Replies as own
 use Rattle.local_repo.proofs.JoinLemmas.{all_had, found_holds, found_name}
 use Rattle.local_repo.proofs.LawLemmas.{union_has}

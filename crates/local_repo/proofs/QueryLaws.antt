@@ -1,6 +1,6 @@
 -- Laws of the commands of repositories that ask queries.
 use Rattle.std.proofs.Common.{◌≡◌, ◌≢◌, ℕ, List, [], Option, Some, None, Bool, true, false, Result, Ok, Err, refl, sym, subst, inl, inr}
-use Rattle.command_table.specs.Plain.{PlainFollow}
+use Rattle.command_table.specs.Plain.{PlainFollow, follows}
 use Rattle.package_core.specs.Card.{Card}
 use Rattle.package_list.specs.declared.fault.ListFault.{ListFault}
 use Rattle.package_list.specs.declared.fault.ListFault.TheVariants as list_faults
@@ -20,7 +20,7 @@ use Rattle.step_model.specs.Case.{Case, Came, asking_case}
 use Rattle.step_model.specs.Lawful.{CommandLaw, IfChanges, IfRefuses, IsFrom, IsLawful}
 use Rattle.step_model.proofs.StepLemmas.{from_known}
 use Rattle.local_repo.specs.Arrival.{list_in, list_of}
-use Rattle.local_repo.specs.Cases.{MayArrive, bad_pair, bad_repo, came_or, chosen_of, copying, follows, joining, listed, moving, pair_case, removal}
+use Rattle.local_repo.specs.Cases.{MayArrive, bad_pair, bad_repo, came_or, chosen_of, copying, joining, listed, moving, pair_case, removal}
 use Rattle.local_repo.proofs.JoinLemmas.{found_holds}
 use Rattle.local_repo.proofs.OwnLemmas.{OwnOr, added_some, dry_run_some, front_some, own_asking, own_pair, own_repo, pair_asking, pair_unbuilt, removed_some}
 

@@ -4,7 +4,7 @@ use Rattle.std.specs.Option.{is_some}
 use Rattle.std.specs.Bool.{if◌then◌else◌}
 use Rattle.std.proofs.lemmas.Bool.{leb-true}
 use Rattle.ap_text.specs.Paths.{is_safe_path}
-use Rattle.command_table.specs.Plain.{PlainFollow, RepoCommand, repo_create, repo_add, repo_list, repo_show, repo_edit, repo_remove, repo_copy, repo_move, repo_rename, repo_drop}
+use Rattle.command_table.specs.Plain.{PlainFollow, follows, RepoCommand, repo_create, repo_add, repo_list, repo_show, repo_edit, repo_remove, repo_copy, repo_move, repo_rename, repo_drop}
 use Rattle.machine_state.specs.declared.refusal.Refusal.{Refusal}
 use Rattle.machine_state.specs.declared.refusal.Refusal.TheVariants.{BadName}
 use Rattle.machine_state.specs.Values.{StateView}
@@ -12,7 +12,7 @@ use Rattle.step_model.specs.declared.reading.Reading.TheVariants as readings
 use Rattle.step_model.specs.Case.{Came, asking_case, or_else, unbuilt}
 use Rattle.step_model.specs.Names.{bad_name, bad_folder}
 use Rattle.step_model.specs.Refuses.{IsReadable, reading}
-use Rattle.local_repo.specs.Cases.{bad_pair, chosen_of, follows, joining, pair_case, repo_case, unknown}
+use Rattle.local_repo.specs.Cases.{bad_pair, chosen_of, joining, pair_case, repo_case, unknown}
 
 short_path : (path : List ℕ) → bad_folder path ≡ None → length path ≤ 200
 short_path path e = go (is_safe_path path) (nat_le (length path) 200) refl e

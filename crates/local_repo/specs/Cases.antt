@@ -6,7 +6,7 @@ use Rattle.package_core.specs.Card.{Card}
 use Rattle.package_intake.specs.Steps.{or_refused}
 use Rattle.package_list.specs.Answers.{append_answer}
 use Rattle.package_list.specs.Lists.{union, without}
-use Rattle.command_table.specs.Plain.{RepoCommand, PlainFollow, repo_create, repo_add, repo_list, repo_show, repo_edit, repo_remove, repo_copy, repo_move, repo_rename, repo_drop}
+use Rattle.command_table.specs.Plain.{RepoCommand, PlainFollow, follows, repo_create, repo_add, repo_list, repo_show, repo_edit, repo_remove, repo_copy, repo_move, repo_rename, repo_drop}
 use Rattle.machine_state.specs.declared.limit.Limit.TheVariants.{Repos, Packages}
 use Rattle.machine_state.specs.declared.limit.Kind.TheVariants as kinds
 use Rattle.machine_state.specs.declared.refusal.Refusal.{Refusal}
@@ -135,10 +135,6 @@ moving state dry source destination more =
 -- the two repositories of a copy or a move are named and there
 abbrev pub bad_pair : StateView → List ℕ → List ℕ → Option Refusal
 bad_pair state source destination = or_else (bad_name source) (or_else (bad_name destination) (or_else (unknown state.repos source) (unknown state.repos destination)))
-
--- a flag of following is written
-abbrev pub follows : Option Bool → PlainFollow → Bool
-follows deps follow = is_some deps || (is_some follow.architectures || (is_some follow.recommends || is_some follow.suggests))
 
 -- A copy or a move of what these queries choose, which comes to this where it can be joined. What follows dependencies isn't built.
 abbrev pub pair_case : StateView → Option Bool → PlainFollow → List ℕ → List ℕ → List (List ℕ) → Came → Case

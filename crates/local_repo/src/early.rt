@@ -1,16 +1,16 @@
 //! What each command of repositories is refused for before anything is read.
 ghost use Rattle.std.specs.Prelude.{◌≡◌, Bool, List, ℕ, false, IfOk, IfErr, OnOk, None, Option, Some};
-ghost use Rattle.command_table.specs.Plain.{plain_follow, repo_create, repo_add, repo_edit, repo_rename, repo_drop};
+ghost use Rattle.command_table.specs.Plain.{follows, plain_follow, repo_create, repo_add, repo_edit, repo_rename, repo_drop};
 ghost use Rattle.machine_state.specs.State.{Valid, repo_of};
 ghost use Rattle.step_model.specs.Answers.{IsFirst};
 ghost use Rattle.step_model.specs.Case.{Came};
-ghost use Rattle.local_repo.specs.Cases.{bad_pair, bad_repo, follows, pair_case, repo_case};
+ghost use Rattle.local_repo.specs.Cases.{bad_pair, bad_repo, pair_case, repo_case};
 ghost use Rattle.local_repo.specs.Settings.{bad_settings};
 
 use crate::checks::{free, there, unused};
 use crate::settings::check_settings;
 use ap_text::{Name, SafePath};
-use command_table::Follow;
+use command_table::{Follow, is_following};
 use control_stanza::Text;
 use machine_state::{ChangeFault, Refusal, Repo, State};
 use std::alloc::Global;
@@ -140,16 +140,6 @@ fn named_pair<'a>(
     let source = there(alloc, state, &from)?;
     let destination = there(alloc, state, &to)?;
     Ok((source, destination))
-}
-
-/// Whether a flag of following is written.
-fn is_following(with_deps: &Option<bool>, follow: &Follow) -> bool
-    ensures { result ≡ follows with_deps.now (plain_follow follow.now) }
-{
-    with_deps.is_some()
-        || follow.architectures.is_some()
-        || follow.recommends.is_some()
-        || follow.suggests.is_some()
 }
 
 /// The two repositories of a copy or a move, for which no flag of following may be written yet.
