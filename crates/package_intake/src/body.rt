@@ -21,6 +21,7 @@ ghost use Rattle.package_intake.specs.Additions.{AddsOne};
 
 use crate::fault::{differs, of_pool, over};
 use crate::known::{KnownFiles, facts_of, stand};
+use crate::taken::Taken;
 use ap_host::{Host, Inbox};
 use ap_text::SafePath;
 use digest_set::Digests;
@@ -133,7 +134,7 @@ pub(crate) fn take_one<H: Host, I: Inbox>(
     files: &KnownFiles,
     path: &SafePath,
     one: &Package,
-) -> Result<Package, UpdateFault>
+) -> Result<Taken, UpdateFault>
     requires files { (q : List ℕ) → file_of files.now q ≡ known_of known.now q }
     ensures told { IsCatalogue known.now → ForSome (I.map inbox.old) (λ f. Gives result (taken_file f known.now path.now one.now)) }
     ensures taken { IfOk result (λ q. IsCatalogue known.now → IsPackage one.now → IsSaid one.now.said → IsTakenIn known.now one.now q) }

@@ -2,7 +2,6 @@
 ghost use Rattle.std.specs.Prelude.{◌≡◌};
 
 use package_core::{Package, compare_packages};
-use package_list::SharedPackage;
 use std::cmp::Ordering;
 use std::marker::Model;
 use std::rc::Rc;
@@ -10,7 +9,7 @@ use std::rc::Rc;
 /// A package, seen as itself, by the order of packages.
 #[derive(Drop)]
 pub struct ByPackage {
-    shared: Rc<SharedPackage>,
+    held: Rc<Package>,
 }
 
 impl Model for ByPackage {
@@ -19,20 +18,20 @@ impl Model for ByPackage {
 
     ghost Value = { Package };
 
-    ghost view = { λ a. rc_value a.shared };
+    ghost view = { λ a. rc_value a.held };
 }
 
 impl ByPackage {
-    pub fn new(shared: Rc<SharedPackage>) -> ByPackage
-        ensures { result ≡ shared.value }
+    pub fn new(held: Rc<Package>) -> ByPackage
+        ensures { result ≡ held.value }
     {
-        ByPackage { shared }
+        ByPackage { held }
     }
 
     fn package(&self) -> &Package
         ensures { result.now ≡ self.now }
     {
-        self.shared.as_ref().package()
+        self.held.as_ref()
     }
 }
 

@@ -17,7 +17,7 @@ use crate::fault::of_list;
 use ap_text::SafePath;
 use machine_state::{Limit, UpdateFault};
 use package_core::Package;
-use package_list::{PackageList, SharedPackage, share};
+use package_list::JoinedPackages;
 use std::alloc::{AllocError, Global};
 use std::collections::BTreeMap;
 use std::rc::Rc;
@@ -36,19 +36,19 @@ fn note_path(paths: &mut Paths, one: ByPackage, path: SafePath) -> Result<(), Al
     Ok(())
 }
 
-/// The packages of an index in the order of the index, to be shared, and the paths of their files: of equal ones that of the first. Of
-/// several indexes the entries are those of one after the other. Fails only for want of memory.
+/// The packages of an index in the order of the index, and the paths of their files: of equal ones that of the first. Of several indexes
+/// the entries are those of one after the other. No id is found. Fails only for want of memory.
 pub fn split(
     alloc: Global,
     entries: Vec<(Package, SafePath)>,
-) -> Result<(Vec<Rc<SharedPackage>>, Paths), AllocError>
+) -> Result<(Vec<Rc<Package>>, Paths), AllocError>
     ensures packages { IfOk result (λ made. map rc_value made.0.items ≡ cards_of entries.items) }
     ensures paths { IfOk result (λ made. (q : Card) → get package_cmp made.1 q ≡ entry_for entries.items q) }
 {
     let mut packages = Vec::with_capacity(alloc, entries.len())?;
     let mut paths = BTreeMap::new(alloc);
     for (package, path) in entries {
-        let package = share(alloc, package)?;
+        let package = Rc::new(alloc, package)?;
         note_path(&mut paths, ByPackage::new(package.clone()?), path)?;
         packages.push(package)?;
     }
@@ -58,13 +58,13 @@ pub fn split(
 /// The packages of an index, joined in its order; of equal ones the first stands. The first that can't join those before it decides the
 /// refusal: `Conflict` where one of those has its name, version and architecture and none is its equal, and `Limit(Packages)` where it
 /// would be the 200,001st. It takes n log n comparisons.
-pub fn join(alloc: Global, packages: &[Rc<SharedPackage>]) -> Result<PackageList, UpdateFault>
+pub fn join(alloc: Global, packages: &[Rc<Package>]) -> Result<JoinedPackages, UpdateFault>
     ensures answer { Gives result (or_refused Packages (join_answer (map rc_value packages.now))) }
     ensures fault { IfErr result IsOwnFault }
     ensures other { IfErr result IsOtherFault }
 {
-    match PackageList::from_shared(alloc, packages) {
-        Ok(list) => Ok(list),
+    match JoinedPackages::new(alloc, packages) {
+        Ok(joined) => Ok(joined),
         Err(fault) => Err(of_list(Limit::Packages, fault)),
     }
 }

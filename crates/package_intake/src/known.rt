@@ -7,9 +7,10 @@ ghost use Rattle.package_intake.specs.Taking.{facts_of as facts, known_of, stand
 ghost use Rattle.package_intake.specs.Inside.{file_in};
 ghost use Rattle.package_intake.specs.Inside.{file_of};
 
+use crate::taken::Taken;
 use digest_set::Digests;
 use package_core::Package;
-use package_list::{PackageList, SharedPackage};
+use package_list::{PackageList, SharedPackage, share};
 use std::alloc::{AllocError, Global};
 use std::collections::BTreeMap;
 use std::rc::Rc;
@@ -56,17 +57,14 @@ pub(crate) fn facts_of(one: &Package) -> Digests
     }
 }
 
-/// The package as it is known, where an equal is known.
-pub(crate) fn stand(
-    alloc: Global,
-    known: &PackageList,
-    made: Package,
-) -> Result<Package, AllocError>
+/// The package as it is known, where an equal is known; that one is shared, and no text of it is made. Else the package is shared, and
+/// its id found.
+pub(crate) fn stand(alloc: Global, known: &PackageList, made: Package) -> Result<Taken, AllocError>
     ensures value { IfOk result (λ stood. stood ≡ standing known.now made) }
     ensures same { IfOk result (λ stood. package_cmp made stood ≡ Equal) }
 {
-    match known.equal_of(&made) {
-        Some(package) => package.copy(alloc),
-        None => Ok(made),
+    match known.shared_equal_of(&made) {
+        Some(known) => Ok(Taken::new(known.clone()?)),
+        None => Ok(Taken::new(share(alloc, made)?)),
     }
 }

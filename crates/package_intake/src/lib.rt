@@ -8,6 +8,7 @@ mod fault;
 mod index;
 mod join;
 mod known;
+mod taken;
 mod taking;
 
 pub use catalogue::check_known;

@@ -24,11 +24,12 @@ use crate::by_package::ByPackage;
 use crate::index::path_below;
 use crate::join::Paths;
 use crate::known::{KnownFiles, known_files};
+use crate::taken::Taken;
 use ap_host::{Host, Inbox};
 use ap_text::SafePath;
 use machine_state::UpdateFault;
 use package_core::Package;
-use package_list::{PackageList, SharedPackage, share};
+use package_list::{JoinedPackages, PackageList};
 use stage_file::Stage;
 use std::alloc::Global;
 use std::rc::Rc;
@@ -38,7 +39,7 @@ fn path_of(
     alloc: Global,
     folder: &SafePath,
     paths: &Paths,
-    one: &Rc<SharedPackage>,
+    one: &Rc<Package>,
 ) -> Result<SafePath, UpdateFault>
     requires { IsSome (get package_cmp paths.now one.now.value) }
     ensures path { IfOk result (λ path. path ≡ below_folder folder.now (path_at paths.now one.now.value)) }
@@ -62,8 +63,8 @@ fn take_next<H: Host, I: Inbox>(
     files: &KnownFiles,
     folder: &SafePath,
     paths: &Paths,
-    one: &Rc<SharedPackage>,
-) -> Result<Package, UpdateFault>
+    one: &Rc<Package>,
+) -> Result<Taken, UpdateFault>
     requires files { (q : List ℕ) → file_of files.now q ≡ known_of known.now q }
     requires path { IsSome (get package_cmp paths.now one.now.value) }
     ensures told { IsCatalogue known.now → length (below_folder folder.now (path_at paths.now one.now.value)) ≤ 1000 → ForSome (I.map inbox.old) (λ f. Gives result (taken_file f known.now (below_folder folder.now (path_at paths.now one.now.value)) one.now.value)) }
@@ -77,16 +78,7 @@ fn take_next<H: Host, I: Inbox>(
     ensures input { CauseOf InboxFault (I.faults inbox.old) (I.faults inbox.new) result }
 {
     let path = path_of(alloc, folder, paths, one)?;
-    take_one(
-        alloc,
-        host,
-        stage,
-        inbox,
-        known,
-        files,
-        &path,
-        one.as_ref().package(),
-    )
+    take_one(alloc, host, stage, inbox, known, files, &path, one.as_ref())
 }
 
 /// Takes in the files of the packages of an index, one after the other in the order of packages, each at its path below the folder. What
@@ -106,7 +98,7 @@ pub fn take_all<H: Host, I: Inbox>(
     inbox: &mut I,
     known: &PackageList,
     folder: &SafePath,
-    list: &PackageList,
+    list: &JoinedPackages,
     paths: &Paths,
 ) -> Result<PackageList, UpdateFault>
     requires ascending { IsAscending package_cmp list.now }
@@ -124,7 +116,7 @@ pub fn take_all<H: Host, I: Inbox>(
     let mut taken = Vec::with_capacity(alloc, list.len())?;
     for one in list.as_slice() {
         let next = take_next(alloc, host, stage, inbox, known, &files, folder, paths, one)?;
-        taken.push(share(alloc, next)?)?;
+        taken.push(next.into_shared())?;
     }
     Ok(PackageList::from_ascending(taken))
 }

@@ -1,7 +1,6 @@
 //! A package that is looked up by its name, architecture and version.
 ghost use Rattle.std.specs.Prelude.{◌≡◌};
 
-use crate::shared::{SharedPackage, package_of};
 use package_core::{Package, compare_packages, has_same_triple};
 use std::cmp::Ordering;
 use std::marker::Model;
@@ -10,7 +9,7 @@ use std::rc::Rc;
 /// A package, seen as itself, of which a set has one for each triple of name, architecture and version.
 #[derive(Drop)]
 pub(crate) struct ByTriple {
-    shared: Rc<SharedPackage>,
+    held: Rc<Package>,
 }
 
 impl Model for ByTriple {
@@ -19,26 +18,26 @@ impl Model for ByTriple {
 
     ghost Value = { Package };
 
-    ghost view = { λ a. rc_value a.shared };
+    ghost view = { λ a. rc_value a.held };
 }
 
 impl ByTriple {
-    pub(crate) fn new(shared: Rc<SharedPackage>) -> ByTriple
-        ensures { result ≡ shared.value }
+    pub(crate) fn new(held: Rc<Package>) -> ByTriple
+        ensures { result ≡ held.value }
     {
-        ByTriple { shared }
+        ByTriple { held }
     }
 
     pub(crate) fn package(&self) -> &Package
         ensures { result.now ≡ self.now }
     {
-        package_of(&self.shared)
+        self.held.as_ref()
     }
 
-    pub(crate) fn into_shared(self) -> Rc<SharedPackage>
+    pub(crate) fn into_held(self) -> Rc<Package>
         ensures { result.value ≡ self }
     {
-        self.shared
+        self.held
     }
 }
 

@@ -11,30 +11,29 @@ ghost use Rattle.package_list.specs.Answers.{Answers, FaultIs, insert_answer, jo
 use crate::by_triple::ByTriple;
 use crate::fault::ListFault;
 use crate::list::MOST_MEMBERS;
-use crate::shared::{SharedPackage, share};
 use package_core::{Package, compare_packages};
 use std::alloc::{AllocError, Global};
 use std::collections::BTreeSet;
 use std::rc::Rc;
 
-/// The same packages, shared.
-pub(crate) fn share_all(
+/// The same packages, each held by a counted pointer.
+pub(crate) fn hold_all(
     alloc: Global,
     packages: Vec<Package>,
-) -> Result<Vec<Rc<SharedPackage>>, AllocError>
+) -> Result<Vec<Rc<Package>>, AllocError>
     ensures { IfOk result (λ v. map rc_value v.items ≡ packages.items) }
 {
-    let mut shared = Vec::with_capacity(alloc, packages.len())?;
+    let mut held = Vec::with_capacity(alloc, packages.len())?;
     for package in packages {
-        shared.push(share(alloc, package)?)?;
+        held.push(Rc::new(alloc, package)?)?;
     }
-    Ok(shared)
+    Ok(held)
 }
 
 /// The members that the packages come to, put in one after the other.
 pub(crate) fn gathered(
     alloc: Global,
-    packages: &[Rc<SharedPackage>],
+    packages: &[Rc<Package>],
 ) -> Result<BTreeSet<ByTriple>, ListFault>
     ensures { MatchResult result (λ members. join_answer (map rc_value packages.now) ≡ Ok members.keys) (λ e. FaultIs e (join_answer (map rc_value packages.now))) }
 {
@@ -75,16 +74,16 @@ fn check_equal(alloc: Global, member: &Package, new: &Package) -> Result<bool, L
     Err(ListFault::Conflict(new.triple(alloc)?))
 }
 
-/// The members in their order, shared.
+/// The members in their order.
 pub(crate) fn items_of(
     alloc: Global,
     members: BTreeSet<ByTriple>,
-) -> Result<Vec<Rc<SharedPackage>>, AllocError>
+) -> Result<Vec<Rc<Package>>, AllocError>
     ensures { IfOk result (λ v. map rc_value v.items ≡ members.keys) }
 {
     let mut items = Vec::with_capacity(alloc, members.len())?;
     for member in members {
-        items.push(member.into_shared())?;
+        items.push(member.into_held())?;
     }
     Ok(items)
 }

@@ -63,14 +63,14 @@ pub(crate) fn one_pass(
     Ok(all)
 }
 
-/// The same members, shared.
+/// The same members, shared, in a vector without room for more.
 pub(crate) fn copy_items(
     alloc: Global,
     items: &[Rc<SharedPackage>],
 ) -> Result<Vec<Rc<SharedPackage>>, AllocError>
     ensures { IfOk result (λ v. map rc_value v.items ≡ map rc_value items.now) }
 {
-    let mut copies = Vec::new(alloc);
+    let mut copies = Vec::with_capacity(alloc, items.len())?;
     for item in items {
         copies.push(item.clone()?)?;
     }

@@ -6,6 +6,7 @@ mod by_triple;
 mod fault;
 mod gather;
 mod join;
+mod joined;
 mod laws;
 mod list;
 mod place;
@@ -14,6 +15,7 @@ mod reduce;
 mod shared;
 
 pub use fault::ListFault;
+pub use joined::JoinedPackages;
 pub use laws::{packages_join_in_turn, unions_have_what_either_has};
 pub use list::{MOST_KNOWN, MOST_MEMBERS, PackageList};
 pub use shared::{SharedPackage, share};

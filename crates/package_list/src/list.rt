@@ -1,5 +1,5 @@
 //! Sorted lists of packages.
-ghost use Rattle.std.specs.Prelude.{◌≡◌, ◌≤◌, ◌<◌, ◌++◌, ◌↔◌, IfOk, OnOk, OnErr, IsTrue, IsFalse, length, slice_get, [], ◌∷◌, MatchOption, Some, map, if◌then◌else◌};
+ghost use Rattle.std.specs.Prelude.{◌≡◌, ◌≤◌, ◌<◌, ◌++◌, ◌↔◌, IfOk, OnOk, OnErr, IsTrue, IsFalse, length, slice_get, [], ◌∷◌, MatchOption, Some, map, option_map, if◌then◌else◌};
 ghost use Rattle.std.specs.Rc.{rc_value};
 ghost use Rattle.package_core.specs.Order.{package_cmp};
 ghost use Rattle.std.specs.Option.{option_copied};
@@ -10,9 +10,10 @@ ghost use Rattle.package_list.specs.Answers.{Answers, insert_answer, append_answ
 
 use crate::apart::apart_union_of;
 use crate::fault::ListFault;
-use crate::gather::{gathered, items_of, share_all};
+use crate::gather::hold_all;
 use crate::join::{copy_items, union_of};
-use crate::place::{clashes_at, equal_in, found_at, is_at, place_of};
+use crate::joined::JoinedPackages;
+use crate::place::{clashes_at, found_at, is_at, place_of, shared_in};
 use crate::push::{push_apart, push_onto};
 use crate::reduce::{latest_of, merge_of};
 use crate::shared::{SharedPackage, package_of, share};
@@ -80,21 +81,10 @@ impl PackageList {
     pub fn from_packages(alloc: Global, packages: Vec<Package>) -> Result<PackageList, ListFault>
         ensures { Answers result (join_answer packages.items) }
     {
-        let packages = share_all(alloc, packages)?;
-        PackageList::from_shared(alloc, &packages)
-    }
-
-    /// The same of packages that are shared already, and go on being so.
-    pub fn from_shared(
-        alloc: Global,
-        packages: &[Rc<SharedPackage>],
-    ) -> Result<PackageList, ListFault>
-        ensures { Answers result (join_answer (map rc_value packages.now)) }
-    {
-        let members = gathered(alloc, packages)?;
-        Ok(PackageList {
-            items: items_of(alloc, members)?,
-        })
+        let packages = hold_all(alloc, packages)?;
+        let joined = JoinedPackages::new(alloc, &packages)?;
+        drop(packages);
+        Ok(joined.share(alloc)?)
     }
 
     /// The number of members.
@@ -126,7 +116,17 @@ impl PackageList {
     pub fn equal_of(&self, wanted: &Package) -> Option<&Package>
         ensures { option_copied result ≡ equal_of package_cmp self.now wanted.now }
     {
-        equal_in(&self.items, wanted)
+        match self.shared_equal_of(wanted) {
+            Some(member) => Some(package_of(member)),
+            None => None,
+        }
+    }
+
+    /// The same member as it is shared, so that another list may have it.
+    pub fn shared_equal_of(&self, wanted: &Package) -> Option<&Rc<SharedPackage>>
+        ensures { option_map rc_value (option_copied result) ≡ equal_of package_cmp self.now wanted.now }
+    {
+        shared_in(&self.items, wanted)
     }
 
     /// The same list once more, with its packages shared. Fails only for want of memory.

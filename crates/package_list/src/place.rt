@@ -1,5 +1,5 @@
 //! Where a package stands in a list, or would stand, found by halves.
-ghost use Rattle.std.specs.Prelude.{◌≡◌, ◌≤◌, ◌<◌, ◌+◌, length, [], ◌∷◌, MatchOption, map, take, drop, remove, true, false};
+ghost use Rattle.std.specs.Prelude.{◌≡◌, ◌≤◌, ◌<◌, ◌+◌, length, [], ◌∷◌, MatchOption, map, option_map, take, drop, remove, true, false};
 ghost use Rattle.std.specs.Rc.{rc_value};
 ghost use Rattle.package_core.specs.Order.{package_cmp, same_triple};
 ghost use Rattle.std.specs.Option.{option_copied};
@@ -30,14 +30,24 @@ pub(crate) fn place_of(items: &[Rc<SharedPackage>], wanted: &Package) -> usize
     low
 }
 
+/// The member at a place, as it is shared.
+fn shared_at(items: &[Rc<SharedPackage>], place: usize) -> Option<&Rc<SharedPackage>>
+    ensures { MatchOption result (drop place (map rc_value items.now) ≡ []) (λ p. drop place (map rc_value items.now) ≡ rc_value p.now ∷ drop (place + 1) (map rc_value items.now)) }
+{
+    if place < items.len() {
+        Some(&items[place])
+    } else {
+        None
+    }
+}
+
 /// The member at a place.
 fn member_at(items: &[Rc<SharedPackage>], place: usize) -> Option<&Package>
     ensures { MatchOption result (drop place (map rc_value items.now) ≡ []) (λ p. drop place (map rc_value items.now) ≡ p.now ∷ drop (place + 1) (map rc_value items.now)) }
 {
-    if place < items.len() {
-        Some(package_of(&items[place]))
-    } else {
-        None
+    match shared_at(items, place) {
+        Some(member) => Some(package_of(member)),
+        None => None,
     }
 }
 
@@ -69,15 +79,18 @@ pub(crate) fn found_at(items: &[Rc<SharedPackage>], wanted: &Package) -> Option<
     }
 }
 
-/// The member that is equal to the package.
-pub(crate) fn equal_in<'a>(items: &'a [Rc<SharedPackage>], wanted: &Package) -> Option<&'a Package>
+/// The member that is equal to the package, as it is shared.
+pub(crate) fn shared_in<'a>(
+    items: &'a [Rc<SharedPackage>],
+    wanted: &Package,
+) -> Option<&'a Rc<SharedPackage>>
     requires { IsAscending package_cmp (map rc_value items.now) }
-    ensures { option_copied result ≡ equal_of package_cmp (map rc_value items.now) wanted.now }
+    ensures { option_map rc_value (option_copied result) ≡ equal_of package_cmp (map rc_value items.now) wanted.now }
 {
     let place = place_of(items, wanted);
-    match member_at(items, place) {
+    match shared_at(items, place) {
         Some(member) => {
-            if compare_packages(member, wanted).is_eq() {
+            if compare_packages(package_of(member), wanted).is_eq() {
                 Some(member)
             } else {
                 None

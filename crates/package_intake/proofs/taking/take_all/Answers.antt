@@ -74,12 +74,6 @@ returns-in_err-next-clause-log g c =
     let member = at_member rc_value (Contains c.args.list.now) c.as_slice-one-items.result.now c.args.list.now c.loop-one.one-index c.one-item.result c.as_slice-one-items.ensures (All-contains_itself c.args.list.now) c.loop-one-test.true c.one-item.is in
     GoesOn-then _ _ _ _ _ _ c.loop-one.invariant.log log (λ l a b h n. all_stops _ _ _ _ c.one-item.result.value member _ _ _ _ l a b h n c.from_residual-in_err-next.result c.from_residual-in_err-next.ensures.0)
 
-pub returns-in_err-share-clause-log : goal.returns-in_err-share-clause-log
-returns-in_err-share-clause-log g c =
-    let log = subst (λ m. GoesOn (g.H.Host.log c.loop-one.host) (g.H.Host.log c.take_next.new.host) (AddsOne m c.one-item.result.value (λ f. All (HasBody f) c.args.known.now) c.take_next.result c.loop-one.stage c.take_next.new.stage)) c.loop-one.invariant.inbox_same c.take_next.ensures.log in
-    let member = at_member rc_value (Contains c.args.list.now) c.as_slice-one-items.result.now c.args.list.now c.loop-one.one-index c.one-item.result c.as_slice-one-items.ensures (All-contains_itself c.args.list.now) c.loop-one-test.true c.one-item.is in
-    GoesOn-then _ _ _ _ _ _ c.loop-one.invariant.log log (λ l a b h n. all_stops _ _ _ _ c.one-item.result.value member _ _ _ _ l a b h n c.from_residual-in_err-share.result c.from_residual-in_err-share.ensures.0)
-
 pub returns-in_err-push-clause-log : goal.returns-in_err-push-clause-log
 returns-in_err-push-clause-log g c =
     let log = subst (λ m. GoesOn (g.H.Host.log c.loop-one.host) (g.H.Host.log c.take_next.new.host) (AddsOne m c.one-item.result.value (λ f. All (HasBody f) c.args.known.now) c.take_next.result c.loop-one.stage c.take_next.new.stage)) c.loop-one.invariant.inbox_same c.take_next.ensures.log in
@@ -104,7 +98,7 @@ loop-one-preserved g c =
     let paths = c.args.paths.now in
     let ys : List Card = map rc_value c.loop-one.taken.items in
     let took : take (i + 1) (map rc_value items) ≡ take i (map rc_value items) ++ x ∷ [] = next_taken rc_value items i c.one-item.result c.loop-one-test.true c.one-item.is in
-    let pushed : map rc_value c.push.new.self.items ≡ ys ++ q ∷ [] = ap (map rc_value) c.in_ok-push.ensures.items ∙ map-append rc_value c.loop-one.taken.items (c.in_ok-share.field-0 ∷ []) ∙ ap (λ (p : Card). ys ++ p ∷ []) c.in_ok-share.ensures in
+    let pushed : map rc_value c.push.new.self.items ≡ ys ++ q ∷ [] = ap (map rc_value) c.in_ok-push.ensures.items ∙ map-append rc_value c.loop-one.taken.items (c.into_shared.result ∷ []) ∙ ap (λ (p : Card). ys ++ p ∷ []) c.into_shared.ensures in
     let log = subst (λ m. GoesOn (g.H.Host.log c.loop-one.host) (g.H.Host.log c.take_next.new.host) (AddsOne m x (λ f. All (HasBody f) known) c.take_next.result c.loop-one.stage c.take_next.new.stage)) c.loop-one.invariant.inbox_same c.take_next.ensures.log in
     let member = at_member rc_value (Contains c.args.list.now) items c.args.list.now i c.one-item.result c.as_slice-one-items.ensures (All-contains_itself c.args.list.now) c.loop-one-test.true c.one-item.is in
     record {

@@ -1,4 +1,4 @@
-use Rattle.std.proofs.Common.{refl, subst, IfOk, All, ◌∙◌}
+use Rattle.std.proofs.Common.{refl, subst, IfOk, All}
 use Rattle.std.proofs.lemmas.Result.{IfOk-from_err}
 use Rattle.ap_host.specs.Changes.{GoesOn}
 use Rattle.ap_host.proofs.ChangeLemmas.{GoesOn-none}
@@ -17,8 +17,8 @@ returns-in_err-path-clause-log g c =
 
 pub returns-clause-taken : goal.returns-clause-taken
 returns-clause-taken g c =
-    subst (λ (x : Card). IfOk c.take_one.result (λ q. IsCatalogue c.args.known.now → IsPackage x → IsSaid x.said → IsTakenIn c.args.known.now x q)) (c.package.ensures ∙ c.as_ref.ensures) c.take_one.ensures.taken
+    subst (λ (x : Card). IfOk c.take_one.result (λ q. IsCatalogue c.args.known.now → IsPackage x → IsSaid x.said → IsTakenIn c.args.known.now x q)) c.as_ref.ensures c.take_one.ensures.taken
 
 pub returns-clause-log : goal.returns-clause-log
 returns-clause-log g c =
-    subst (λ (x : Card). GoesOn (g.H.Host.log c.args.host.now) (g.H.Host.log c.take_one.new.host) (AddsOne (g.I.Inbox.map c.args.inbox.now) x (λ f. All (HasBody f) c.args.known.now) c.take_one.result c.args.stage.now c.take_one.new.stage)) (c.package.ensures ∙ c.as_ref.ensures) c.take_one.ensures.log
+    subst (λ (x : Card). GoesOn (g.H.Host.log c.args.host.now) (g.H.Host.log c.take_one.new.host) (AddsOne (g.I.Inbox.map c.args.inbox.now) x (λ f. All (HasBody f) c.args.known.now) c.take_one.result c.args.stage.now c.take_one.new.stage)) c.as_ref.ensures c.take_one.ensures.log

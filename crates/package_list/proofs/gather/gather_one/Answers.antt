@@ -1,9 +1,8 @@
-use Rattle.std.proofs.Common.{◌≡◌, Some, None, sym, ap, ◌∙◌, subst, cond, Ok, Err, false, rules}
+use Rattle.std.proofs.Common.{◌≡◌, Some, None, sym, ◌∙◌, subst, cond, Ok, Err, false, rules}
 use Rattle.std.specs.Ordering.{is_eq}
 use Rattle.std.specs.List.{find}
-use Rattle.std.specs.BTreeSet.{insert_key}
 use Rattle.package_core.specs.Card.{triple}
-use Rattle.package_core.specs.Order.{package_cmp, triple_cmp}
+use Rattle.package_core.specs.Order.{package_cmp}
 use Rattle.package_list.specs.declared.fault.ListFault.TheVariants.{Conflict}
 use Rattle.package_list.specs.Answers.{Answers}
 use Rattle.package_list.proofs.Gathers.{found_decides, found_stays, none_decides, key_is_put, of_triple, if_equal}
