@@ -12,20 +12,24 @@ use Rattle.machine_state.specs.Limits.{limit_number}
 use Rattle.machine_state.specs.State.{mirror_name}
 use Rattle.machine_state.specs.Texts.{IsDate, AreNames, is_listed}
 use Rattle.machine_state.specs.Values.{MirrorView}
-use Rattle.catalogue_text.specs.declared.shared_values.Listed.TheVariants.{Components, Architectures}
-use Rattle.catalogue_text.specs.Lines.{IsLine}
-use Rattle.catalogue_text.specs.Pieces.{Piece, Takes}
-use Rattle.catalogue_text.specs.MirrorLines.{blank_and, names_behind, yes_or_no, filter_text, mirrors_line, mirror_line, archive_line, place_line, components_line, architectures_line, filter_line, deps_line, updated_line, date_line}
-use Rattle.catalogue_text.specs.Root.{set_pieces, updated_pieces, mirror_pieces, mirrors_pieces}
-use Rattle.catalogue_text.specs.Grammar.{Line, Series, Count, SetPart, IsNext, FetchedPart, UpdatedPart, NextMirror, MirrorsPart}
-use Rattle.catalogue_text.specs.Reading.{NoLine, ReadsLine, ReadsPart, ReadsSeries, Stops, Each, GoodSet, IdsApart}
-use Rattle.catalogue_text.specs.MirrorReading.{Then, IsPath, IsChoice, IsEither, PlacePart, place_pieces, GoodPlace, ListsPart, lists_pieces, GoodLists, ChoicePart, choice_pieces, GoodChoice, SettingsPart, settings_pieces, GoodSettings, DatedPart, dated_pieces, GoodDated, GoodUpdated, GoodMirror, GoodMirrors}
-use Rattle.catalogue_text.proofs.Parts.{IsPart, IsTold, Others, IsOther, line_of, line_part, line_told, stops_line, stops_first, stops_then, stops_as, both_part, both_told, as_part, as_told, then_part, then_told, stops_in_first, stops_in_second, reads_then, line_read, line_in, line_up, series_part, series_told, stops_series, part_when}
-use Rattle.catalogue_text.proofs.SharedValues.{names_apart}
+use Rattle.catalogue_lines.specs.declared.shared_values.Listed.TheVariants.{Components, Architectures}
+use Rattle.catalogue_lines.specs.Lines.{IsLine}
+use Rattle.catalogue_lines.specs.Pieces.{Piece, Takes}
+use Rattle.machine_state.specs.Words.{blank_and, names_behind, yes_or_no, filter_text}
+use Rattle.catalogue_text.specs.MirrorLines.{mirrors_line, mirror_line, archive_line, place_line, components_line, filter_line, deps_line, updated_line, date_line}
+use Rattle.catalogue_lines.specs.NameLines.{architectures_line}
+use Rattle.catalogue_lines.specs.SetLines.{set_pieces}
+use Rattle.catalogue_text.specs.Root.{updated_pieces, mirror_pieces, mirrors_pieces}
+use Rattle.catalogue_lines.specs.PartForms.{Line, Series, Count, SetPart, IsNext, Then}
+use Rattle.catalogue_text.specs.Grammar.{FetchedPart, UpdatedPart, NextMirror, MirrorsPart}
+use Rattle.catalogue_lines.specs.Reading.{NoLine, ReadsLine, ReadsPart, ReadsSeries, Stops, Each, GoodSet, IdsApart}
+use Rattle.catalogue_text.specs.MirrorReading.{IsPath, IsChoice, IsEither, PlacePart, place_pieces, GoodPlace, ListsPart, lists_pieces, GoodLists, ChoicePart, choice_pieces, GoodChoice, SettingsPart, settings_pieces, GoodSettings, DatedPart, dated_pieces, GoodDated, GoodUpdated, GoodMirror, GoodMirrors}
+use Rattle.catalogue_lines.proofs.Parts.{IsPart, IsTold, Others, IsOther, line_of, line_part, line_told, stops_line, stops_first, stops_then, stops_as, both_part, both_told, as_part, as_told, then_part, then_told, stops_in_first, stops_in_second, reads_then, line_read, line_in, line_up, series_part, series_told, stops_series, part_when}
+use Rattle.catalogue_lines.proofs.SharedValues.{names_apart}
 use Rattle.catalogue_text.proofs.MirrorValues.{filters_apart}
-use Rattle.catalogue_text.proofs.ValueLemmas.{settings_apart}
-use Rattle.catalogue_text.proofs.ReadLemmas.{counted_in, counted_up}
-use Rattle.catalogue_text.proofs.RootParts.{GoodOf, count_part, count_told, set_part, set_told}
+use Rattle.catalogue_lines.proofs.ValueLemmas.{settings_apart}
+use Rattle.catalogue_lines.proofs.ReadLemmas.{counted_in, counted_up}
+use Rattle.catalogue_lines.proofs.KnownParts.{GoodOf, count_part, count_told, set_part, set_told}
 
 -- ---- each line
 texts_apart : (key a b : List ℕ) → key ++ a ≡ key ++ b → b ≡ a

@@ -14,19 +14,21 @@ use Rattle.machine_state.specs.Ascending as names
 use Rattle.machine_state.specs.Mirrors.{IsFetched, IsMirror, MirrorLists}
 use Rattle.machine_state.specs.State.{AreMirrors, IsNamedList, mirror_name, mirror_cmp}
 use Rattle.machine_state.specs.Values.{MirrorView}
-use Rattle.catalogue_text.specs.declared.shared_values.Listed.{Listed}
-use Rattle.catalogue_text.specs.declared.shared_values.Listed.TheVariants.{Components, Architectures}
-use Rattle.catalogue_text.specs.Lines.{IsPlain}
-use Rattle.catalogue_text.specs.MirrorLines.{names_behind, yes_or_no, filter_text}
+use Rattle.catalogue_lines.specs.declared.shared_values.Listed.{Listed}
+use Rattle.catalogue_lines.specs.declared.shared_values.Listed.TheVariants.{Components, Architectures}
+use Rattle.catalogue_lines.specs.Lines.{IsPlain}
+use Rattle.machine_state.specs.Words.{names_behind, yes_or_no, filter_text}
 use Rattle.catalogue_text.specs.Root.{mirror_pieces, mirrors_pieces, updated_pieces}
-use Rattle.catalogue_text.specs.Reading.{Each}
-use Rattle.catalogue_text.specs.MirrorReading.{IsPath, IsChoice, listed_name, GoodUpdated, GoodMirror, GoodMirrors}
-use Rattle.catalogue_text.proofs.SharedValues.{path_visible, listed_is_name}
+use Rattle.catalogue_lines.specs.Reading.{Each}
+use Rattle.catalogue_text.specs.MirrorReading.{IsPath, IsChoice, GoodUpdated, GoodMirror, GoodMirrors}
+use Rattle.catalogue_lines.specs.NameLines.{listed_name}
+use Rattle.catalogue_lines.proofs.SharedValues.{path_visible, listed_is_name}
 use Rattle.catalogue_text.proofs.MirrorValues.{filter_is_line}
-use Rattle.catalogue_text.proofs.PlainLemmas.{digits_plain, is_name_plain, setting_plain}
-use Rattle.catalogue_text.proofs.SetPieces.{ArePieces, pieces_both, set_are, good_set, named_list, set_short, shorts_both}
-use Rattle.catalogue_text.proofs.TakesLemmas.{Shorts}
-use Rattle.catalogue_text.proofs.ValidLemmas.{all_cons, all_tail, all_none, names_before, names_each}
+use Rattle.catalogue_lines.proofs.PlainLemmas.{digits_plain, is_name_plain, setting_plain}
+use Rattle.catalogue_lines.proofs.SetPieces.{ArePieces, pieces_both, set_are, good_set, named_list, set_short, shorts_both}
+use Rattle.catalogue_lines.proofs.TakesLemmas.{Shorts}
+use Rattle.catalogue_lines.proofs.ValidLemmas.{all_cons, all_tail, all_none}
+use Rattle.catalogue_lines.proofs.NameLemmas.{names_before, names_each}
 
 -- ---- no line end is in their lines
 visible_plain : (bs : List ℕ) → list_all is_path_byte bs ≡ true → IsPlain bs

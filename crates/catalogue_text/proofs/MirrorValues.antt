@@ -9,7 +9,7 @@ use Rattle.query_tree.proofs.Kept.{written_line, written_text}
 use Rattle.query_tree.proofs.Round.{written_again}
 use Rattle.query_grammar.proofs.Said.{one_tree}
 use Rattle.machine_state.specs.Texts.{IsFilter}
-use Rattle.catalogue_text.specs.MirrorLines.{filter_text}
+use Rattle.machine_state.specs.Words.{filter_text}
 use Rattle.catalogue_text.specs.MirrorReading.{IsChoice}
 
 -- ---- filters

@@ -21,22 +21,29 @@ use Rattle.machine_state.specs.Ascending as names
 use Rattle.machine_state.specs.Limits.{limit_number}
 use Rattle.machine_state.specs.State.{IsRepo, IsSnapshot, AreRepos, AreSnapshots, IsNamedList, IsKnown, Valid, repo_name, repo_cmp, snapshot_name, snapshot_cmp}
 use Rattle.machine_state.specs.Values.{StateView}
-use Rattle.catalogue_text.specs.Lines.{is_ended, line_ends}
-use Rattle.catalogue_text.specs.Pieces.{Piece, alone, packed, package_line, piece_text, Begins, Takes}
-use Rattle.catalogue_text.specs.Root.{id_of, joined, repo_pieces, known_pieces, mirrors_pieces, repos_pieces, snapshot_pieces, snapshots_pieces, publications_pieces, last_pieces, root_pieces, root_text}
-use Rattle.catalogue_text.specs.Grammar.{Ends, KnownPart, Root, CanStand}
+use Rattle.catalogue_lines.specs.Lines.{is_ended, line_ends}
+use Rattle.catalogue_lines.specs.Pieces.{Piece, alone, packed, package_line, piece_text, Begins, Takes, joined}
+use Rattle.catalogue_lines.specs.SetLines.{id_of}
+use Rattle.catalogue_text.specs.Root.{repo_pieces, mirrors_pieces, repos_pieces, snapshot_pieces, snapshots_pieces, last_pieces, root_pieces, root_text}
+use Rattle.catalogue_lines.specs.KnownForms.{known_pieces, KnownPart}
+use Rattle.catalogue_publications.specs.PublicationLines.{publications_pieces}
+use Rattle.catalogue_lines.specs.PartForms.{Ends}
+use Rattle.catalogue_text.specs.Grammar.{Root, CanStand}
 use Rattle.catalogue_text.specs.Faults.{IsWithin, TextsApart, IsFirstBadLine}
-use Rattle.catalogue_text.specs.Reading.{Stops, StopsRoot, Never, Always, Each, GoodRepo, GoodSnapshot, GoodRepos, GoodSnapshots, IdsApart}
-use Rattle.catalogue_text.proofs.Parts.{Others}
-use Rattle.catalogue_text.proofs.PlainLemmas.{known_plain, repos_plain, repo_name_plain, comment_plain, distribution_plain, component_plain, snapshots_plain, snapshot_plain}
-use Rattle.catalogue_text.proofs.RootParts.{known_part, known_told}
+use Rattle.catalogue_lines.specs.Reading.{Stops, Never, Always, Each, IdsApart}
+use Rattle.catalogue_text.specs.RootReading.{StopsRoot, GoodRepo, GoodSnapshot, GoodRepos, GoodSnapshots}
+use Rattle.catalogue_lines.proofs.Parts.{Others}
+use Rattle.catalogue_lines.proofs.PlainLemmas.{known_plain}
+use Rattle.catalogue_text.proofs.RootLines.{repos_plain, repo_name_plain, comment_plain, distribution_plain, component_plain, snapshots_plain, snapshot_plain}
+use Rattle.catalogue_lines.proofs.KnownParts.{known_part, known_told}
 use Rattle.catalogue_text.proofs.MirrorValid.{good_mirrors, valid_mirrors, mirrors_are, mirrors_short}
-use Rattle.catalogue_text.proofs.PublicationText.{publications_lines, lines_are, lines_short}
-use Rattle.catalogue_text.proofs.PublicationValid.{good_publications, valid_publications, sources_there}
-use Rattle.catalogue_text.proofs.SetPieces.{good_set, named_list, ArePieces, pieces_both, takes_joined, known_are, set_are, shorts_both, shorts_known, set_short}
+use Rattle.catalogue_publications.proofs.PublicationText.{publications_lines, lines_are, lines_short}
+use Rattle.catalogue_publications.proofs.PublicationValid.{good_publications, valid_publications, sources_there}
+use Rattle.catalogue_lines.proofs.SetPieces.{good_set, named_list, ArePieces, pieces_both, takes_joined, known_are, set_are, shorts_both, shorts_known, set_short}
 use Rattle.catalogue_text.proofs.WholeRoot.{GoodState, behind_known, behind_mirrors, behind_repos, behind_snapshots, root_part, root_told}
-use Rattle.catalogue_text.proofs.TakesLemmas.{Shorts, takes_short, takes_unique, GoesOn, nothing_begins, ended_text, joined_ended}
-use Rattle.catalogue_text.proofs.ValidLemmas.{all_cons, all_tail, all_none, each_less, sorted_each, names_before, names_each}
+use Rattle.catalogue_lines.proofs.TakesLemmas.{Shorts, takes_short, takes_unique, GoesOn, nothing_begins, ended_text, joined_ended}
+use Rattle.catalogue_lines.proofs.ValidLemmas.{all_cons, all_tail, all_none, each_less, sorted_each}
+use Rattle.catalogue_lines.proofs.NameLemmas.{names_before, names_each}
 
 -- ---- a valid state is good
 each_repo : (known : List Card) (done xs : List Repo) → All IsRepo xs → All (λ repo. IsNamedList known repo.list) xs → names.IsAscending repo_cmp (done ++ xs) → Each (GoodRepo known) done xs

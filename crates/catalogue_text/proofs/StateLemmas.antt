@@ -6,18 +6,23 @@ use Rattle.machine_state.specs.declared.repo.Repo.{Repo}
 use Rattle.machine_state.specs.declared.snapshot.Snapshot.{Snapshot}
 use Rattle.machine_state.specs.State.{Valid}
 use Rattle.machine_state.specs.Values.{MirrorView, PublicationView, StateView}
-use Rattle.catalogue_text.specs.Lines.{is_ended, line_ends}
-use Rattle.catalogue_text.specs.Pieces.{Takes}
-use Rattle.catalogue_text.specs.Root.{known_pieces, mirrors_pieces, repos_pieces, snapshots_pieces, publications_pieces, last_pieces, root_pieces, root_text, joined}
-use Rattle.catalogue_text.specs.Grammar.{KnownPart, MirrorsPart, ReposPart, SnapshotsPart, PublicationsPart, LastPart, Root, IsWithinLimits}
+use Rattle.catalogue_lines.specs.Lines.{is_ended, line_ends}
+use Rattle.catalogue_lines.specs.Pieces.{Takes, joined}
+use Rattle.catalogue_lines.specs.KnownForms.{known_pieces, KnownPart, IsWithinLimits}
+use Rattle.catalogue_text.specs.Root.{mirrors_pieces, repos_pieces, snapshots_pieces, last_pieces, root_pieces, root_text}
+use Rattle.catalogue_publications.specs.PublicationLines.{publications_pieces}
+use Rattle.catalogue_text.specs.Grammar.{MirrorsPart, ReposPart, SnapshotsPart, LastPart, Root}
+use Rattle.catalogue_publications.specs.PublicationGrammar.{PublicationsPart}
 use Rattle.catalogue_text.specs.Faults.{TextsApart, IsFirstBadLine}
-use Rattle.catalogue_text.specs.Reading.{Stops, StopsRoot, ReadsPart, GoodKnown, GoodRepos, GoodSnapshots, IdsApart}
+use Rattle.catalogue_lines.specs.Reading.{Stops, ReadsPart, GoodKnown, IdsApart}
+use Rattle.catalogue_text.specs.RootReading.{StopsRoot, GoodRepos, GoodSnapshots}
 use Rattle.catalogue_text.specs.MirrorReading.{GoodMirrors}
-use Rattle.catalogue_text.specs.PublicationReading.{GoodPublications}
-use Rattle.catalogue_text.proofs.Parts.{takes_both, stops_first, stops_then, stops_as}
-use Rattle.catalogue_text.proofs.RootParts.{known_part, known_told, repos_part, repos_told, snapshots_part, snapshots_told, last_part}
+use Rattle.catalogue_publications.specs.PublicationReading.{GoodPublications}
+use Rattle.catalogue_lines.proofs.Parts.{takes_both, stops_first, stops_then, stops_as}
+use Rattle.catalogue_lines.proofs.KnownParts.{known_part, known_told}
+use Rattle.catalogue_text.proofs.RootParts.{repos_part, repos_told, snapshots_part, snapshots_told, last_part}
 use Rattle.catalogue_text.proofs.MirrorParts.{mirrors_part, mirrors_told}
-use Rattle.catalogue_text.proofs.PublicationParts.{publications_part, publications_told}
+use Rattle.catalogue_publications.proofs.PublicationParts.{publications_part, publications_told}
 use Rattle.catalogue_text.proofs.WholeRoot.{FromMirrors, FromRepos, FromSnapshots, FromPublications, FromLast, GoodFromMirrors, GoodFromRepos, GoodFromSnapshots, GoodFromPublications, GoodFromLast, state_of, behind_known, behind_mirrors, behind_repos, behind_snapshots, behind_publications, from_last, from_publications, from_snapshots, from_repos, from_mirrors}
 use Rattle.catalogue_text.proofs.RootTexts.{ids_apart, known_whole, valid_state, text_is_root, stops_root, stops_behind}
 

@@ -4,16 +4,21 @@ use Rattle.package_core.specs.Card.{Card}
 use Rattle.machine_state.specs.declared.repo.Repo.{Repo}
 use Rattle.machine_state.specs.declared.snapshot.Snapshot.{Snapshot}
 use Rattle.machine_state.specs.Values.{MirrorView, PublicationView, StateView}
-use Rattle.catalogue_text.specs.Pieces.{Piece}
-use Rattle.catalogue_text.specs.Root.{known_pieces, mirrors_pieces, repos_pieces, snapshots_pieces, publications_pieces, last_pieces, root_pieces}
-use Rattle.catalogue_text.specs.Grammar.{KnownPart, MirrorsPart, ReposPart, SnapshotsPart, PublicationsPart, LastPart, Root, IsWithinLimits}
-use Rattle.catalogue_text.specs.Reading.{GoodKnown, GoodRepos, GoodSnapshots, IdsApart}
+use Rattle.catalogue_lines.specs.Pieces.{Piece}
+use Rattle.catalogue_lines.specs.KnownForms.{known_pieces, KnownPart, IsWithinLimits}
+use Rattle.catalogue_text.specs.Root.{mirrors_pieces, repos_pieces, snapshots_pieces, last_pieces, root_pieces}
+use Rattle.catalogue_publications.specs.PublicationLines.{publications_pieces}
+use Rattle.catalogue_text.specs.Grammar.{MirrorsPart, ReposPart, SnapshotsPart, LastPart, Root}
+use Rattle.catalogue_publications.specs.PublicationGrammar.{PublicationsPart}
+use Rattle.catalogue_lines.specs.Reading.{GoodKnown, IdsApart}
+use Rattle.catalogue_text.specs.RootReading.{GoodRepos, GoodSnapshots}
 use Rattle.catalogue_text.specs.MirrorReading.{GoodMirrors}
-use Rattle.catalogue_text.specs.PublicationReading.{GoodPublications}
-use Rattle.catalogue_text.proofs.Parts.{IsPart, IsTold, both_part, both_told, as_part, as_told}
-use Rattle.catalogue_text.proofs.RootParts.{known_part, known_told, repos_part, repos_told, snapshots_part, snapshots_told, last_part, last_told}
+use Rattle.catalogue_publications.specs.PublicationReading.{GoodPublications}
+use Rattle.catalogue_lines.proofs.Parts.{IsPart, IsTold, both_part, both_told, as_part, as_told}
+use Rattle.catalogue_lines.proofs.KnownParts.{known_part, known_told}
+use Rattle.catalogue_text.proofs.RootParts.{repos_part, repos_told, snapshots_part, snapshots_told, last_part, last_told}
 use Rattle.catalogue_text.proofs.MirrorParts.{mirrors_part, mirrors_told}
-use Rattle.catalogue_text.proofs.PublicationParts.{publications_part, publications_told}
+use Rattle.catalogue_publications.proofs.PublicationParts.{publications_part, publications_told}
 
 abbrev pub state_of : List Card → List MirrorView → List Repo → List Snapshot → List PublicationView → StateView
 state_of known mirrors repos snapshots publications = record { known = known; mirrors = mirrors; repos = repos; snapshots = snapshots; publications = publications }

@@ -7,9 +7,9 @@ use Rattle.machine_state.specs.State.{Valid}
 use Rattle.machine_state.specs.Values.{StateView}
 use Rattle.catalogue_text.specs.declared.fault.RootFault.{RootFault}
 use Rattle.catalogue_text.specs.declared.fault.RootFault.TheVariants.{At, OutOfMemory}
-use Rattle.catalogue_text.specs.Lines.{line_ends}
-use Rattle.catalogue_text.specs.Pieces.{Piece, Takes}
-use Rattle.catalogue_text.specs.Root.{root_text, joined}
+use Rattle.catalogue_lines.specs.Lines.{line_ends}
+use Rattle.catalogue_lines.specs.Pieces.{Piece, Takes, joined}
+use Rattle.catalogue_text.specs.Root.{root_text}
 use Rattle.catalogue_text.specs.Grammar.{CanStand}
 
 -- the part stands within the whole

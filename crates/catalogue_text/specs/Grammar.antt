@@ -1,29 +1,23 @@
 -- What can stand first in a root: at each place the form that the pieces before it ask for, and with it the condition of a
 -- valid state that it has to meet, by itself or together with the pieces before it. Nothing is asked of what could follow.
-use Rattle.std.specs.Prelude.{◌≤◌, Bool, true, false, List, [], ◌∷◌, codes, Option, Some, None, IsTrue, IfSome, All}
+use Rattle.std.specs.Prelude.{Bool, true, false, List, [], codes, Option, Some, None, IsTrue, IfSome}
 use Rattle.ap_text.specs.Names.{is_component}
 use Rattle.package_core.specs.Card.{Card}
-use Rattle.package_core.specs.Order.{package_cmp}
-use Rattle.package_list.specs.Sorted.{AllLess}
-use Rattle.machine_state.specs.declared.limit.Limit.TheVariants.{Mirrors, Repos, Snapshots, Known, Catalogue, File}
+use Rattle.machine_state.specs.declared.limit.Limit.TheVariants.{Mirrors, Repos, Snapshots}
 use Rattle.machine_state.specs.declared.fetched.Fetched.{Fetched}
 use Rattle.machine_state.specs.declared.repo.Repo.{Repo}
 use Rattle.machine_state.specs.declared.snapshot.Snapshot.{Snapshot}
 use Rattle.machine_state.specs.Limits.{limit_number}
-use Rattle.machine_state.specs.State.{IsLineText, mirror_name, repo_name, snapshot_name, text_length}
+use Rattle.machine_state.specs.State.{IsLineText, mirror_name, repo_name, snapshot_name}
 use Rattle.machine_state.specs.Texts.{IsDate, IsFilter, AreNames, is_listed, is_path}
 use Rattle.machine_state.specs.Values.{MirrorView, StateView}
-use Rattle.catalogue_text.specs.Pieces.{Piece, alone, packed}
-use Rattle.catalogue_text.specs.MirrorLines.{mirrors_line, mirror_line, archive_line, place_line, components_line, architectures_line, filter_line, deps_line, updated_line, date_line}
-use Rattle.catalogue_text.specs.Root.{known_line, repos_line, name_line, comment_line, distribution_line, component_line, snapshots_line, snapshot_line}
-pub use Rattle.catalogue_text.specs.PartForms.{Ends, Line, Fixed, Series, Count, MayJoin, NextMember, SetPart, IsName, IsNext}
-unfoldable pub use Rattle.catalogue_text.specs.PublicationGrammar.{PublicationsPart}
-
--- a package that comes after those before it
-abbrev pub NextPackage : List Card → (Card → List Piece → Type 0) → List Piece → Type 0
-NextPackage before Next [] = Unit {0}
-NextPackage before Next (alone line ∷ pieces) = ⊥
-NextPackage before Next (packed p ∷ pieces) = AllLess package_cmp before p × Next p pieces
+use Rattle.catalogue_lines.specs.Pieces.{Piece}
+use Rattle.catalogue_text.specs.MirrorLines.{mirrors_line, mirror_line, archive_line, place_line, components_line, filter_line, deps_line, updated_line, date_line}
+use Rattle.catalogue_lines.specs.NameLines.{architectures_line}
+use Rattle.catalogue_text.specs.Root.{repos_line, name_line, comment_line, distribution_line, component_line, snapshots_line, snapshot_line}
+use Rattle.catalogue_lines.specs.KnownForms.{IsWithinLimits, KnownPart}
+use Rattle.catalogue_lines.specs.PartForms.{Ends, Line, Series, Count, SetPart, IsName, IsNext}
+use Rattle.catalogue_publications.specs.PublicationGrammar.{PublicationsPart}
 
 -- a repository whose name comes after those before it
 unfoldable pub NextRepo : List Card → List Repo → (Repo → List Piece → Type 0) → List Piece → Type 0
@@ -53,19 +47,9 @@ NextMirror known before Next =
     Line deps_line (λ is. Unit {0}) (λ with_deps. UpdatedPart known (λ updated.
     Next (record { name = name; archive = archive; distribution = distribution; components = components; architectures = architectures; filter = filter; with_deps = with_deps; updated = updated })))))))))
 
--- the limits that are kept only at the end: on the length of all package texts, and on the size of each file
-pub record IsWithinLimits (known : List Card) : Type 0 where
-  pub files : All (λ p. p.said.size ≤ limit_number File) known
-  pub texts : text_length known ≤ limit_number Catalogue
-
 -- the end of a root that knows these packages
 unfoldable pub LastPart : List Card → (Unit {0} → List Piece → Type 0) → List Piece → Type 0
 LastPart known Next = Line (λ u. codes "end") (λ u. IsWithinLimits known) Next
-
--- the packages of a root
-unfoldable pub KnownPart : (List Card → List Piece → Type 0) → List Piece → Type 0
-KnownPart Next =
-    Fixed (codes "aptly root 0") (Count known_line (limit_number Known) (λ n. Series n NextPackage [] Next))
 
 -- the mirrors of a root that knows these packages
 unfoldable pub MirrorsPart : List Card → (List MirrorView → List Piece → Type 0) → List Piece → Type 0

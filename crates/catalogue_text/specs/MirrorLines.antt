@@ -1,14 +1,8 @@
 -- The lines that a mirror is written by in a root.
-use Rattle.std.specs.Prelude.{ℕ, Bool, true, false, List, [], ◌∷◌, ◌++◌, codes, Option, Some, None}
+use Rattle.std.specs.Prelude.{ℕ, Bool, List, ◌++◌, codes, Option}
 use Rattle.std.specs.Fmt.{decimal}
 use Rattle.query_tree.specs.Tree.{Tree}
-use Rattle.query_tree.specs.Written.{written}
-pub use Rattle.catalogue_text.specs.NameLines.{names_behind, architectures_line}
-
--- a blank and the text, where there is a text
-abbrev pub blank_and : List ℕ → List ℕ
-blank_and [] = []
-blank_and (b ∷ bs) = 32 ∷ b ∷ bs
+use Rattle.machine_state.specs.Words.{blank_and, names_behind, filter_text, yes_or_no}
 
 abbrev pub mirrors_line : ℕ → List ℕ
 mirrors_line count = codes "mirrors " ++ decimal count
@@ -26,17 +20,8 @@ place_line path = codes "distribution " ++ path
 abbrev pub components_line : List (List ℕ) → List ℕ
 components_line names = codes "components" ++ names_behind names
 
--- the query of a filter as it is written, which is no empty text
-abbrev pub filter_text : Option Tree → List ℕ
-filter_text None = []
-filter_text (Some tree) = written tree
-
 abbrev pub filter_line : Option Tree → List ℕ
 filter_line filter = codes "filter" ++ blank_and (filter_text filter)
-
-abbrev pub yes_or_no : Bool → List ℕ
-yes_or_no true = codes "yes"
-yes_or_no false = codes "no"
 
 abbrev pub deps_line : Bool → List ℕ
 deps_line is = codes "with-deps " ++ yes_or_no is

@@ -9,16 +9,12 @@ use Rattle.machine_state.specs.Limits.{limit_number}
 use Rattle.machine_state.specs.State.{mirror_name}
 use Rattle.machine_state.specs.Texts.{IsDate, IsFilter, AreNames, is_listed, is_path}
 use Rattle.machine_state.specs.Values.{MirrorView}
-pub use Rattle.catalogue_text.specs.NameLines.{listed_name}
-use Rattle.catalogue_text.specs.Pieces.{Piece, alone}
-use Rattle.catalogue_text.specs.MirrorLines.{archive_line, place_line, components_line, architectures_line, filter_line, deps_line, date_line}
-use Rattle.catalogue_text.specs.Root.{set_pieces}
-use Rattle.catalogue_text.specs.Grammar.{Line, SetPart, IsNext}
-use Rattle.catalogue_text.specs.Reading.{Each, GoodSet}
-
--- one part behind another that doesn't depend on it
-abbrev pub Then : {A B : Type 0} → ((A → List Piece → Type 0) → List Piece → Type 0) → ((B → List Piece → Type 0) → List Piece → Type 0) → (A × B → List Piece → Type 0) → List Piece → Type 0
-Then F G Next = F (λ a. G (λ b. Next (a, b)))
+use Rattle.catalogue_lines.specs.NameLines.{architectures_line}
+use Rattle.catalogue_lines.specs.Pieces.{Piece, alone}
+use Rattle.catalogue_text.specs.MirrorLines.{archive_line, place_line, components_line, filter_line, deps_line, date_line}
+use Rattle.catalogue_lines.specs.SetLines.{set_pieces}
+use Rattle.catalogue_lines.specs.PartForms.{Line, SetPart, IsNext, Then}
+use Rattle.catalogue_lines.specs.Reading.{Each, GoodSet}
 
 abbrev pub IsPath : ℕ → List ℕ → Type 0
 IsPath most path = IsTrue (is_path most path)

@@ -1,9 +1,10 @@
 -- Where the parts of a root begin.
 use Rattle.std.specs.Prelude.{ℕ, suc, List, ◌++◌}
 use Rattle.machine_state.specs.Values.{StateView}
-use Rattle.catalogue_text.specs.Lines.{line_ends}
-use Rattle.catalogue_text.specs.Pieces.{Piece}
-use Rattle.catalogue_text.specs.Root.{joined, known_pieces, mirrors_pieces, repos_pieces, snapshots_pieces}
+use Rattle.catalogue_lines.specs.Lines.{line_ends}
+use Rattle.catalogue_lines.specs.Pieces.{Piece, joined}
+use Rattle.catalogue_lines.specs.KnownForms.{known_pieces}
+use Rattle.catalogue_text.specs.Root.{mirrors_pieces, repos_pieces, snapshots_pieces}
 
 -- what stands before the publications
 unfoldable pub front_pieces : StateView → List Piece

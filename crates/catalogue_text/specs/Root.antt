@@ -1,20 +1,18 @@
 -- The root text: a state as the pieces that stand for it in a store.
-use Rattle.std.specs.Prelude.{ℕ, List, [], ◌∷◌, ◌++◌, length, map, codes, true, false, Option, Some, None, unwrap_or}
+use Rattle.std.specs.Prelude.{ℕ, List, [], ◌∷◌, ◌++◌, length, codes, true, false, Option, Some, None, unwrap_or}
 use Rattle.std.specs.List.{flat_map}
 use Rattle.std.specs.Fmt.{decimal}
-use Rattle.package_core.specs.Card.{Card}
 use Rattle.machine_state.specs.declared.repo.Repo.{Repo}
 use Rattle.machine_state.specs.declared.snapshot.Snapshot.{Snapshot}
 use Rattle.machine_state.specs.declared.fetched.Fetched.{Fetched}
 use Rattle.machine_state.specs.Values.{MirrorView, StateView}
-use Rattle.catalogue_text.specs.Pieces.{Piece, alone, packed, piece_text}
-use Rattle.catalogue_text.specs.MirrorLines.{mirror_line, archive_line, place_line, components_line, architectures_line, filter_line, deps_line, mirrors_line, updated_line, date_line}
-pub use Rattle.catalogue_text.specs.MirrorLines.{blank_and}
-unfoldable pub use Rattle.catalogue_text.specs.SetLines.{id_of, set_line, set_pieces}
-unfoldable pub use Rattle.catalogue_text.specs.PublicationLines.{publications_pieces}
-
-abbrev pub known_line : ℕ → List ℕ
-known_line count = codes "known " ++ decimal count
+use Rattle.catalogue_lines.specs.Pieces.{Piece, alone, joined}
+use Rattle.catalogue_text.specs.MirrorLines.{mirror_line, archive_line, place_line, components_line, filter_line, deps_line, mirrors_line, updated_line, date_line}
+use Rattle.catalogue_lines.specs.KnownForms.{known_pieces}
+use Rattle.catalogue_lines.specs.NameLines.{architectures_line}
+use Rattle.machine_state.specs.Words.{blank_and}
+use Rattle.catalogue_lines.specs.SetLines.{set_pieces}
+use Rattle.catalogue_publications.specs.PublicationLines.{publications_pieces}
 
 abbrev pub repos_line : ℕ → List ℕ
 repos_line count = codes "repos " ++ decimal count
@@ -42,10 +40,6 @@ unfoldable pub repo_pieces : Repo → List Piece
 repo_pieces repo =
     alone (name_line repo.name) ∷ alone (comment_line repo.comment) ∷ alone (distribution_line repo.distribution)
     ∷ alone (component_line repo.component) ∷ set_pieces repo.list
-
--- the first line, and the packages: how many they are, and each of them
-unfoldable pub known_pieces : List Card → List Piece
-known_pieces known = alone (codes "aptly root 0") ∷ alone (known_line (length known)) ∷ map packed known
 
 -- what was fetched of an archive, where something was
 abbrev pub updated_pieces : Option Fetched → List Piece
@@ -83,10 +77,6 @@ unfoldable pub root_pieces : StateView → List Piece
 root_pieces state =
     known_pieces state.known ++ (mirrors_pieces state.mirrors ++ (repos_pieces state.repos ++ (snapshots_pieces state.snapshots
     ++ (publications_pieces state.publications ++ last_pieces))))
-
--- the text of pieces one behind another
-abbrev pub joined : List Piece → List ℕ
-joined pieces = flat_map piece_text pieces
 
 -- the root text of a state
 unfoldable pub root_text : StateView → List ℕ

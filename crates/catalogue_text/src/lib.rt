@@ -2,27 +2,16 @@
 #![tactic(auto)]
 
 mod fault;
-mod generations;
-mod known;
 mod laws;
-mod lines;
 mod mirror_values;
 mod mirrors;
-mod names;
 mod place;
-mod publication_sources;
-mod publication_values;
-mod publications;
 mod read;
+mod repo_values;
 mod repos;
-mod sets;
-mod shared_values;
 mod snapshots;
-mod stop;
-mod values;
 mod write;
 mod write_mirrors;
-mod write_publications;
 
 pub use fault::RootFault;
 pub use laws::laws_of_root_texts;

@@ -1,18 +1,17 @@
 //! The lines of a mirror that give one value each.
-ghost use Rattle.std.specs.Prelude.{◌≡◌, ◌↔◌, ◌∷◌, ◌++◌, ◌==◌, not, ℕ, List, Bool, Option, IfOk, MatchOption, IsTrue, IsFalse};
+ghost use Rattle.std.specs.Prelude.{◌≡◌, ◌↔◌, ◌∷◌, ◌++◌, ◌==◌, not, Bool, Option, IfOk, MatchOption, IsTrue};
 ghost use Rattle.std.specs.Option.{option_map};
 ghost use Rattle.std.specs.List.{list_all};
 ghost use Rattle.query_tree.specs.Tree.{Tree, plain};
 ghost use Rattle.query_tree.specs.Written.{written as written_query};
-ghost use Rattle.machine_state.specs.Texts.{IsDate, IsFilter, AreNames, is_path as path};
-ghost use Rattle.catalogue_text.specs.MirrorLines.{yes_or_no, names_behind, filter_text, filter_line as filter_spelled, date_line as date_spelled};
+ghost use Rattle.machine_state.specs.Texts.{IsDate, IsFilter, is_path as path};
+ghost use Rattle.machine_state.specs.Words.{yes_or_no, filter_text};
+ghost use Rattle.catalogue_text.specs.MirrorLines.{filter_line as filter_spelled, date_line as date_spelled};
 ghost use Rattle.catalogue_text.specs.MirrorReading.{IsPath, IsChoice, IsEither};
-ghost use Rattle.catalogue_text.specs.Reading.{NoLine, ReadsLine};
+ghost use Rattle.catalogue_lines.specs.Reading.{NoLine, ReadsLine};
 
-use crate::lines::{as_text, key_line};
-use crate::shared_values::path_of_bytes;
-use crate::values::setting;
 use ap_text::SafePath;
+use catalogue_lines::{as_text, key_line, path_of_bytes, setting};
 use control_stanza::Text;
 use query_grammar::{Query, QueryFault, read_filter, write_query};
 use std::alloc::{AllocError, Global};

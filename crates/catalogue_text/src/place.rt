@@ -1,12 +1,14 @@
 //! Where the publications of a root begin.
 ghost use Rattle.std.specs.Prelude.{◌≡◌, ◌++◌, suc, IfOk, OnOk, string_bytes};
-ghost use Rattle.catalogue_text.specs.Lines.{line_ends as line_ends_of};
+ghost use Rattle.catalogue_lines.specs.Lines.{line_ends as line_ends_of};
 ghost use Rattle.catalogue_text.specs.Places.{publications_place};
-ghost use Rattle.catalogue_text.specs.Root.{joined, known_pieces, mirrors_pieces, repos_pieces, snapshots_pieces};
+ghost use Rattle.catalogue_lines.specs.Pieces.{joined};
+ghost use Rattle.catalogue_lines.specs.KnownForms.{known_pieces};
+ghost use Rattle.catalogue_text.specs.Root.{mirrors_pieces, repos_pieces, snapshots_pieces};
 
-use crate::lines::line_ends;
-use crate::write::{put_known, put_repos, put_snapshots};
+use crate::write::{put_repos, put_snapshots};
 use crate::write_mirrors::put_mirrors;
+use catalogue_lines::{line_ends, put_known};
 use machine_state::{Mirror, Repo, Snapshot, State};
 use package_list::PackageList;
 use std::alloc::{AllocError, Global};

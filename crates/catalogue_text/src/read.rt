@@ -1,20 +1,20 @@
 //! A root text read back.
-ghost use Rattle.std.specs.Prelude.{◌≡◌, ◌↔◌, IsTrue, true, ◌<◌, ◌^◌, ℕ, [], List, length, IfOk, IfErr, MatchResult};
+ghost use Rattle.std.specs.Prelude.{◌≡◌, ◌↔◌, IsTrue, true, ◌<◌, ◌^◌, [], length, IfOk, IfErr, MatchResult};
 ghost use Rattle.machine_state.specs.State.{Valid};
-ghost use Rattle.catalogue_text.specs.Lines.{is_ended as ended};
+ghost use Rattle.catalogue_lines.specs.Lines.{is_ended as ended};
 ghost use Rattle.catalogue_text.specs.Root.{root_text as root_of, last_pieces};
-ghost use Rattle.catalogue_text.specs.Grammar.{LastPart, IsWithinLimits};
+ghost use Rattle.catalogue_text.specs.Grammar.{LastPart};
+ghost use Rattle.catalogue_lines.specs.KnownForms.{IsWithinLimits};
 ghost use Rattle.catalogue_text.specs.Faults.{TextsApart, IsRootFault};
-ghost use Rattle.catalogue_text.specs.Reading.{IfBefore, Stops, StopsRoot, ReadsPart, IsIndexed};
+ghost use Rattle.catalogue_lines.specs.Reading.{IfBefore, Stops, ReadsPart, IsIndexed};
+ghost use Rattle.catalogue_text.specs.RootReading.{StopsRoot};
 
 use crate::fault::RootFault;
-use crate::known::{Known, read_known};
-use crate::lines::{after_line, is_ended, line_before};
 use crate::mirrors::read_mirrors;
-use crate::publications::read_publications;
 use crate::repos::read_repos;
 use crate::snapshots::read_snapshots;
-use crate::stop::Stop;
+use catalogue_lines::{Known, Stop, after_line, is_ended, line_before, read_known};
+use catalogue_publications::read_publications;
 use machine_state::State;
 use std::alloc::Global;
 

@@ -1,16 +1,15 @@
 //! The repositories of a root.
-ghost use Rattle.std.specs.Prelude.{◌≡◌, ℕ, [], List, IfOk, IfErr};
+ghost use Rattle.std.specs.Prelude.{◌≡◌, [], IfOk, IfErr};
 ghost use Rattle.machine_state.specs.Ascending.{IsAscending};
 ghost use Rattle.machine_state.specs.State.{repo_cmp};
 ghost use Rattle.catalogue_text.specs.Root.{repo_pieces, repos_pieces};
-ghost use Rattle.catalogue_text.specs.Grammar.{Series, NextRepo, ReposPart};
-ghost use Rattle.catalogue_text.specs.Reading.{IfBefore, Stops, ReadsSeries, ReadsPart, Each, GoodRepo, GoodRepos, IsIndexed, IdsApart};
+ghost use Rattle.catalogue_lines.specs.PartForms.{Series};
+ghost use Rattle.catalogue_text.specs.Grammar.{NextRepo, ReposPart};
+ghost use Rattle.catalogue_lines.specs.Reading.{IfBefore, Stops, ReadsSeries, ReadsPart, IsIndexed, IdsApart};
+ghost use Rattle.catalogue_text.specs.RootReading.{GoodRepo, GoodRepos};
 
-use crate::known::Known;
-use crate::names::follows;
-use crate::sets::read_set;
-use crate::stop::Stop;
-use crate::values::{comment_line, component_line, count_line, distribution_line, name_line};
+use crate::repo_values::{comment_line, component_line, distribution_line};
+use catalogue_lines::{Known, Stop, count_line, follows, name_line, read_set};
 use machine_state::{Limit, Repo};
 use std::alloc::Global;
 

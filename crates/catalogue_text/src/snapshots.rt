@@ -1,16 +1,14 @@
 //! The snapshots of a root.
-ghost use Rattle.std.specs.Prelude.{◌≡◌, ℕ, [], List, IfOk, IfErr};
+ghost use Rattle.std.specs.Prelude.{◌≡◌, [], IfOk, IfErr};
 ghost use Rattle.machine_state.specs.Ascending.{IsAscending};
 ghost use Rattle.machine_state.specs.State.{snapshot_cmp};
 ghost use Rattle.catalogue_text.specs.Root.{snapshot_pieces, snapshots_pieces};
-ghost use Rattle.catalogue_text.specs.Grammar.{Series, NextSnapshot, SnapshotsPart};
-ghost use Rattle.catalogue_text.specs.Reading.{IfBefore, Stops, ReadsSeries, ReadsPart, Each, GoodSnapshot, GoodSnapshots, IsIndexed, IdsApart};
+ghost use Rattle.catalogue_lines.specs.PartForms.{Series};
+ghost use Rattle.catalogue_text.specs.Grammar.{NextSnapshot, SnapshotsPart};
+ghost use Rattle.catalogue_lines.specs.Reading.{IfBefore, Stops, ReadsSeries, ReadsPart, IsIndexed, IdsApart};
+ghost use Rattle.catalogue_text.specs.RootReading.{GoodSnapshot, GoodSnapshots};
 
-use crate::known::Known;
-use crate::names::follows;
-use crate::sets::read_set;
-use crate::stop::Stop;
-use crate::values::{count_line, name_line};
+use catalogue_lines::{Known, Stop, count_line, follows, name_line, read_set};
 use machine_state::{Limit, Snapshot};
 use std::alloc::Global;
 

@@ -1,61 +1,16 @@
 //! The root text of a state.
-ghost use Rattle.std.specs.Prelude.{◌≡◌, ◌++◌, ◌∷◌, OnOk, IfOk, string_bytes, codes, [], unwrap_or, length, map};
+ghost use Rattle.std.specs.Prelude.{◌≡◌, ◌++◌, ◌∷◌, OnOk, IfOk, string_bytes, [], unwrap_or};
 ghost use Rattle.std.specs.List.{flat_map};
-ghost use Rattle.std.specs.Fmt.{decimal};
-ghost use Rattle.package_core.specs.Card.{package_text};
-ghost use Rattle.catalogue_text.specs.Pieces.{alone, packed, piece_text, package_line};
-ghost use Rattle.catalogue_text.specs.Root.{blank_and, id_of, joined, set_pieces, repo_pieces, known_pieces, repos_pieces, snapshot_pieces, snapshots_pieces, last_pieces, root_pieces, root_text as root_of};
+ghost use Rattle.catalogue_lines.specs.Pieces.{joined};
+ghost use Rattle.catalogue_text.specs.Root.{repo_pieces, repos_pieces, snapshot_pieces, snapshots_pieces, last_pieces, root_text as root_of};
 
-use crate::known::id_text;
 use crate::write_mirrors::put_mirrors;
-use crate::write_publications::put_publications;
 use ap_text::Name;
+use catalogue_lines::{put_count, put_fixed, put_known, put_line, put_set, put_setting};
+use catalogue_publications::put_publications;
 use control_stanza::Text;
 use machine_state::{Repo, Snapshot, State};
-use package_core::Package;
-use package_list::{PackageList, SharedPackage};
 use std::alloc::{AllocError, Global};
-use std::fmt::Write;
-
-/// A line of a key and a text.
-pub(crate) fn put_line(out: &mut String, key: &str, text: &str) -> Result<(), AllocError>
-    ensures { OnOk result (string_bytes out.new ≡ string_bytes out.old ++ piece_text (alone (key.now ++ text.now))) }
-{
-    out.push_str(key)?;
-    out.push_str(text)?;
-    out.push_str("\n")?;
-    Ok(())
-}
-
-/// A line of a key, and of a blank and the text where there is a text.
-pub(crate) fn put_setting(out: &mut String, key: &str, text: &str) -> Result<(), AllocError>
-    ensures { OnOk result (string_bytes out.new ≡ string_bytes out.old ++ piece_text (alone (key.now ++ blank_and text.now))) }
-{
-    out.push_str(key)?;
-    if !text.is_empty() {
-        out.push_str(" ")?;
-        out.push_str(text)?;
-    }
-    out.push_str("\n")?;
-    Ok(())
-}
-
-pub(crate) fn put_count(out: &mut String, key: &str, count: usize) -> Result<(), AllocError>
-    ensures { OnOk result (string_bytes out.new ≡ string_bytes out.old ++ piece_text (alone (key.now ++ decimal count))) }
-{
-    out.push_str(key)?;
-    write!(out, "{count}")?;
-    out.push_str("\n")?;
-    Ok(())
-}
-
-pub(crate) fn put_fixed(out: &mut String, text: &str) -> Result<(), AllocError>
-    ensures { OnOk result (string_bytes out.new ≡ string_bytes out.old ++ piece_text (alone text.now)) }
-{
-    out.push_str(text)?;
-    out.push_str("\n")?;
-    Ok(())
-}
 
 fn optional_text(name: &Option<Name>) -> &str
     ensures { result.now ≡ unwrap_or name.now [] }
@@ -64,51 +19,6 @@ fn optional_text(name: &Option<Name>) -> &str
         None => "",
         Some(name) => name.as_str(),
     }
-}
-
-/// A package: its line and its text.
-fn put_package(alloc: Global, out: &mut String, package: &Package) -> Result<(), AllocError>
-    ensures { OnOk result (string_bytes out.new ≡ string_bytes out.old ++ piece_text (packed «package».now)) }
-{
-    let text = package.text(alloc)?;
-    put_count(out, "package ", text.as_str().len())?;
-    out.push_str(text.as_str())?;
-    Ok(())
-}
-
-fn put_id(alloc: Global, out: &mut String, member: &SharedPackage) -> Result<(), AllocError>
-    ensures { OnOk result (string_bytes out.new ≡ string_bytes out.old ++ piece_text (alone (id_of member.now))) }
-{
-    let id = id_text(alloc, member)?;
-    put_fixed(out, id.as_str())
-}
-
-fn put_packages(alloc: Global, out: &mut String, known: &PackageList) -> Result<(), AllocError>
-    ensures { OnOk result (string_bytes out.new ≡ string_bytes out.old ++ joined (map packed known.now)) }
-{
-    for i in 0..known.len() {
-        let Some(package) = known.get(i) else {
-            return Ok(());
-        };
-        put_package(alloc, out, package)?;
-    }
-    Ok(())
-}
-
-fn put_ids(alloc: Global, out: &mut String, list: &PackageList) -> Result<(), AllocError>
-    ensures { OnOk result (string_bytes out.new ≡ string_bytes out.old ++ joined (map (λ p. alone (id_of p)) list.now)) }
-{
-    for member in list.as_slice() {
-        put_id(alloc, out, member)?;
-    }
-    Ok(())
-}
-
-pub(crate) fn put_set(alloc: Global, out: &mut String, list: &PackageList) -> Result<(), AllocError>
-    ensures { OnOk result (string_bytes out.new ≡ string_bytes out.old ++ joined (set_pieces list.now)) }
-{
-    put_count(out, "set ", list.len())?;
-    put_ids(alloc, out, list)
 }
 
 fn put_repo(alloc: Global, out: &mut String, repo: &Repo) -> Result<(), AllocError>
@@ -128,18 +38,6 @@ fn put_each(alloc: Global, out: &mut String, repos: &[Repo]) -> Result<(), Alloc
         put_repo(alloc, out, repo)?;
     }
     Ok(())
-}
-
-pub(crate) fn put_known(
-    alloc: Global,
-    out: &mut String,
-    known: &PackageList,
-) -> Result<(), AllocError>
-    ensures { OnOk result (string_bytes out.new ≡ string_bytes out.old ++ joined (known_pieces known.now)) }
-{
-    put_fixed(out, "aptly root 0")?;
-    put_count(out, "known ", known.len())?;
-    put_packages(alloc, out, known)
 }
 
 pub(crate) fn put_repos(alloc: Global, out: &mut String, repos: &[Repo]) -> Result<(), AllocError>

@@ -3,63 +3,21 @@ ghost use Rattle.std.specs.Prelude.{◌≡◌, ◌++◌, OnOk, string_bytes};
 ghost use Rattle.std.specs.List.{flat_map};
 ghost use Rattle.std.specs.Option.{option_map};
 ghost use Rattle.query_tree.specs.Tree.{plain};
-ghost use Rattle.catalogue_text.specs.Pieces.{alone, piece_text};
-ghost use Rattle.catalogue_text.specs.MirrorLines.{names_behind, yes_or_no as flag_spelled, filter_line};
-ghost use Rattle.catalogue_text.specs.Root.{joined, updated_pieces, mirror_pieces, mirrors_pieces};
+ghost use Rattle.catalogue_lines.specs.Pieces.{alone, piece_text, joined};
+ghost use Rattle.catalogue_text.specs.MirrorLines.{filter_line};
+ghost use Rattle.catalogue_text.specs.Root.{updated_pieces, mirror_pieces, mirrors_pieces};
 ghost use Rattle.catalogue_text.specs.MirrorReading.{place_pieces, lists_pieces, choice_pieces};
 
-use crate::lines::as_text;
-use crate::write::{put_count, put_fixed, put_line, put_set, put_setting};
-use ap_text::Name;
-use machine_state::{Fetched, Mirror};
-use query_grammar::{Query, write_query};
+use catalogue_lines::{put_count, put_fixed, put_line, put_names, put_set, put_setting};
+use machine_state::{Fetched, Mirror, filter_text, yes_or_no};
+use query_grammar::Query;
 use std::alloc::{AllocError, Global};
-
-fn put_each_name(out: &mut String, names: &[Name]) -> Result<(), AllocError>
-    ensures { OnOk result (string_bytes out.new ≡ string_bytes out.old ++ names_behind names.now) }
-{
-    for name in names {
-        out.push_str(" ")?;
-        out.push_str(name.as_str())?;
-    }
-    Ok(())
-}
-
-/// A line of a key, and of a blank before each of the names.
-pub(crate) fn put_names(out: &mut String, key: &str, names: &[Name]) -> Result<(), AllocError>
-    ensures { OnOk result (string_bytes out.new ≡ string_bytes out.old ++ piece_text (alone (key.now ++ names_behind names.now))) }
-{
-    out.push_str(key)?;
-    put_each_name(out, names)?;
-    out.push_str("\n")?;
-    Ok(())
-}
-
-/// A line with a filter. What is written of a query is UTF-8, as its texts are, so it is always written.
-fn put_query(alloc: Global, out: &mut String, query: &Query) -> Result<(), AllocError>
-    ensures { OnOk result (string_bytes out.new ≡ string_bytes out.old ++ piece_text (alone (filter_line (Some (plain query.now))))) }
-{
-    let mut written = Vec::new(alloc);
-    write_query(&mut written, query)?;
-    match as_text(&written) {
-        Some(text) => put_setting(out, "filter", text),
-        None => Err(AllocError),
-    }
-}
 
 fn put_filter(alloc: Global, out: &mut String, filter: &Option<Query>) -> Result<(), AllocError>
     ensures { OnOk result (string_bytes out.new ≡ string_bytes out.old ++ piece_text (alone (filter_line (option_map plain filter.now)))) }
 {
-    match filter {
-        None => put_fixed(out, "filter"),
-        Some(query) => put_query(alloc, out, query),
-    }
-}
-
-fn yes_or_no(is: bool) -> &'static str
-    ensures { result.now ≡ flag_spelled is }
-{
-    if is { "yes" } else { "no" }
+    let text = filter_text(alloc, filter)?;
+    put_setting(out, "filter", text.as_str())
 }
 
 fn put_place(out: &mut String, mirror: &Mirror) -> Result<(), AllocError>

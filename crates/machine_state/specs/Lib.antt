@@ -5,6 +5,7 @@ pub mod Values
 pub mod Texts
 pub mod Lists
 pub mod Mirrors
+pub mod Words
 pub mod Publications
 pub mod State
 pub mod Sources

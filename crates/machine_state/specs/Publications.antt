@@ -12,6 +12,7 @@ use Rattle.machine_state.specs.Limits.{limit_number}
 use Rattle.machine_state.specs.Lists.{IsNamedList}
 use Rattle.machine_state.specs.Texts.{IsTitle, AreNames, is_listed, is_prefix}
 use Rattle.machine_state.specs.Values.{GenerationView, PublicationView}
+use Rattle.machine_state.specs.Words.{place_text}
 
 -- repositories and snapshots are published, nothing else
 abbrev pub is_published : Kind → Bool
@@ -20,14 +21,9 @@ is_published Snapshot = true
 is_published Mirror = false
 is_published Component = false
 
--- how a prefix is written
-abbrev pub prefix_text : Option (List ℕ) → List ℕ
-prefix_text None = codes "."
-prefix_text (Some path) = path
-
--- the origin and the label, where nothing else is said: the prefix, a blank and the distribution
+-- the origin and the label, where nothing else is said: the place
 abbrev pub title : PublicationView → List ℕ
-title publication = prefix_text publication.prefix ++ 32 ∷ publication.dist
+title publication = place_text (publication.prefix, publication.dist)
 
 -- what a generation or the sources of a publication have beside each component
 abbrev pub components_of : {X : Type 0} → List (List ℕ × X) → List (List ℕ)

@@ -15,6 +15,7 @@ mod snapshot;
 mod sources;
 mod state;
 mod texts;
+mod words;
 
 pub use arrived::{Arrived, UpdateFault};
 pub use change::{Change, ChangeFault};
@@ -29,3 +30,4 @@ pub use snapshot::Snapshot;
 pub use sources::{in_use, rename_sources};
 pub use state::State;
 pub use texts::{is_line, is_line_text};
+pub use words::{filter_text, kind_word, prefix_word, put_blank_and, put_names_behind, yes_or_no};

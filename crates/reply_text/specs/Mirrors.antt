@@ -4,11 +4,10 @@ use Rattle.std.specs.List.{flat_map}
 use Rattle.std.specs.Fmt.{decimal}
 use Rattle.package_core.specs.Card.{Card}
 use Rattle.query_tree.specs.Tree.{Tree}
-use Rattle.query_tree.specs.Written.{written}
 use Rattle.machine_state.specs.declared.fetched.Fetched.{Fetched}
 use Rattle.machine_state.specs.Values.{MirrorView}
 use Rattle.reply_text.specs.Replies.{listed_line, packages_line, triple_lines}
-use Rattle.reply_text.specs.Words.{line, blank_and, names_behind, yes_or_no}
+use Rattle.reply_text.specs.Words.{line, blank_and, names_behind, yes_or_no, filter_text}
 
 -- `Mirror debian created.`
 unfoldable pub mirror_created : List ℕ → List ℕ
@@ -38,11 +37,6 @@ mirror_line mirror = listed_line mirror.name (length (fetched_list mirror.update
 -- how many mirrors there are, and of each its name and how many packages it has
 unfoldable pub mirror_list : List MirrorView → List ℕ
 mirror_list mirrors = line (codes "Mirrors: " ++ decimal (length mirrors)) ++ flat_map mirror_line mirrors
-
--- a filter as it is written
-abbrev pub filter_text : Option Tree → List ℕ
-filter_text None = []
-filter_text (Some tree) = written tree
 
 -- what a mirror is called, and where its archive is, each on a line
 unfoldable pub origin_lines : List ℕ → List ℕ → List ℕ → List ℕ

@@ -18,16 +18,16 @@ part_sum parts = length (flat_map (λ part. part.1) parts)
 -- `Published . stable: 700 packages, serial 2.`
 unfoldable pub published : PublicationView → List ℕ
 published publication =
-    line (codes "Published " ++ (place_text publication.prefix publication.dist ++ (codes ": "
+    line (codes "Published " ++ (place_text (publication.prefix, publication.dist) ++ (codes ": "
     ++ (decimal (part_sum publication.current.parts) ++ (codes " packages, serial " ++ (decimal publication.serial ++ codes "."))))))
 
 -- `Publication . stable dropped.`
 unfoldable pub publication_dropped : Option (List ℕ) → List ℕ → List ℕ
-publication_dropped prefix dist = line (codes "Publication " ++ (place_text prefix dist ++ codes " dropped."))
+publication_dropped prefix dist = line (codes "Publication " ++ (place_text (prefix, dist) ++ codes " dropped."))
 
 -- ` * . stable serial 2`
 unfoldable pub publication_line : PublicationView → List ℕ
-publication_line publication = line (codes " * " ++ (place_text publication.prefix publication.dist ++ (codes " serial " ++ decimal publication.serial)))
+publication_line publication = line (codes " * " ++ (place_text (publication.prefix, publication.dist) ++ (codes " serial " ++ decimal publication.serial)))
 
 -- how many publications there are, and each
 unfoldable pub publish_list : List PublicationView → List ℕ

@@ -1,36 +1,15 @@
 -- The words and the parts of the lines that are said, as bytes.
-use Rattle.std.specs.Prelude.{ℕ, Bool, true, false, ◌&&◌, nat_le, List, [], ◌∷◌, ◌++◌, map, take, codes, encode_utf8_all, Option, Some, None, if◌then◌else◌}
-use Rattle.std.specs.List.{flat_map}
+use Rattle.std.specs.Prelude.{ℕ, ◌&&◌, nat_le, List, [], ◌∷◌, ◌++◌, map, take, codes, encode_utf8_all, if◌then◌else◌}
 use Rattle.std.specs.Str.{chars}
 use Rattle.digest_set.specs.declared.facts.What.{What}
 use Rattle.digest_set.specs.declared.facts.What.TheVariants as facts
-use Rattle.machine_state.specs.declared.limit.Kind.{Kind}
-use Rattle.machine_state.specs.declared.limit.Kind.TheVariants as kinds
 use Rattle.machine_state.specs.declared.limit.Limit.{Limit}
 use Rattle.machine_state.specs.declared.limit.Limit.TheVariants as limits
+pub use Rattle.machine_state.specs.Words.{blank_and, names_behind, yes_or_no, kind_word, filter_text, prefix_word, place_text}
 
 -- a line: its text, and the line end
 unfoldable pub line : List ℕ → List ℕ
 line text = text ++ 10 ∷ []
-
--- a blank and the text, where there is a text
-abbrev pub blank_and : List ℕ → List ℕ
-blank_and [] = []
-blank_and (b ∷ bs) = 32 ∷ b ∷ bs
-
--- a blank before each name
-abbrev pub names_behind : List (List ℕ) → List ℕ
-names_behind names = flat_map (λ name. 32 ∷ name) names
-
-abbrev pub yes_or_no : Bool → List ℕ
-yes_or_no true = codes "yes"
-yes_or_no false = codes "no"
-
-abbrev pub kind_word : Kind → List ℕ
-kind_word kinds.Mirror = codes "mirror"
-kind_word kinds.Repo = codes "repo"
-kind_word kinds.Snapshot = codes "snapshot"
-kind_word kinds.Component = codes "component"
 
 -- what a limit counts
 abbrev pub limit_word : Limit → List ℕ
@@ -54,15 +33,6 @@ what_word facts.Size = codes "size"
 what_word facts.Sha256 = codes "sha256"
 what_word facts.Sha1 = codes "sha1"
 what_word facts.Md5 = codes "md5"
-
--- the prefix of a publication, `.` for none
-abbrev pub prefix_word : Option (List ℕ) → List ℕ
-prefix_word None = codes "."
-prefix_word (Some path) = path
-
--- a publication: its prefix and its distribution
-abbrev pub place_text : Option (List ℕ) → List ℕ → List ℕ
-place_text prefix dist = prefix_word prefix ++ (codes " " ++ dist)
 
 -- a character as a terminal can show it: from the space to the tilde, and `?` for any other
 abbrev pub shown_char : ℕ → ℕ

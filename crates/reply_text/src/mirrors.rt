@@ -3,16 +3,15 @@ ghost use Rattle.std.specs.Prelude.{◌≡◌, ◌++◌, codes, IfOk, OnOk, stri
 ghost use Rattle.std.specs.List.{flat_map};
 ghost use Rattle.std.specs.Option.{option_map};
 ghost use Rattle.query_tree.specs.Tree.{plain};
-ghost use Rattle.reply_text.specs.Words.{line as line_of, blank_and, yes_or_no as yes_or_no_of};
-ghost use Rattle.reply_text.specs.Mirrors.{mirror_created as created, mirror_updated as updated, mirror_renamed as renamed, mirror_dropped as dropped, fetched_list, mirror_line, mirror_list as listed, filter_text, origin_lines, names_lines, filter_lines, fetched_lines, mirror_show as shown};
+ghost use Rattle.reply_text.specs.Words.{line as line_of, blank_and, filter_text as filter_text_of};
+ghost use Rattle.reply_text.specs.Mirrors.{mirror_created as created, mirror_updated as updated, mirror_renamed as renamed, mirror_dropped as dropped, fetched_list, mirror_line, mirror_list as listed, origin_lines, names_lines, filter_lines, fetched_lines, mirror_show as shown};
 
 use crate::put::{put_asked, put_count, put_line, put_listed, put_names, put_setting, whole_line};
 use ap_text::{Name, SafePath};
 use control_stanza::Text;
-use machine_state::{Fetched, Mirror, State};
-use query_tree::{Query, write_query};
+use machine_state::{Fetched, Mirror, State, filter_text, yes_or_no};
+use query_tree::Query;
 use std::alloc::{AllocError, Global};
-use std::str;
 
 /// The reply to a mirror's making: `Mirror <name> created.` Fails only for want of memory.
 #[tactic(auto, unfolding(crate::specs::Mirrors::mirror_created))]
@@ -81,32 +80,12 @@ pub fn mirror_list(alloc: Global, state: &State) -> Result<Text, AllocError>
     Text::new(alloc, out.as_str())
 }
 
-fn yes_or_no(is: bool) -> &'static str
-    ensures { result.now ≡ yes_or_no_of is }
-{
-    if is { "yes" } else { "no" }
-}
-
-/// The text of a filter, or none.
-fn filter_bytes(alloc: Global, filter: &Option<Query>) -> Result<Vec<u8>, AllocError>
-    ensures { IfOk result (λ bytes. bytes.items ≡ filter_text (option_map plain filter.now)) }
-{
-    let mut bytes = Vec::new(alloc);
-    if let Some(query) = filter {
-        write_query(&mut bytes, query)?;
-    }
-    Ok(bytes)
-}
-
-/// The line of a filter. What is written of a query is UTF-8.
+/// The line of a filter.
 fn put_filter(alloc: Global, out: &mut String, filter: &Option<Query>) -> Result<(), AllocError>
-    ensures { OnOk result (string_bytes out.new ≡ string_bytes out.old ++ line_of (codes "Filter:" ++ blank_and (filter_text (option_map plain filter.now)))) }
+    ensures { OnOk result (string_bytes out.new ≡ string_bytes out.old ++ line_of (codes "Filter:" ++ blank_and (filter_text_of (option_map plain filter.now)))) }
 {
-    let bytes = filter_bytes(alloc, filter)?;
-    match str::from_utf8(&bytes) {
-        Ok(text) => put_setting(out, "Filter:", text),
-        Err(_) => Err(AllocError),
-    }
+    let text = filter_text(alloc, filter)?;
+    put_setting(out, "Filter:", text.as_str())
 }
 
 #[tactic(auto, unfolding(crate::specs::Mirrors::origin_lines), using(std::proofs::Common::append_assoc))]

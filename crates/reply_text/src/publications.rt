@@ -6,10 +6,10 @@ ghost use Rattle.std.specs.List.{flat_map};
 ghost use Rattle.reply_text.specs.Publications.{published as published_line, publication_dropped as dropped, publication_line, publish_list as listed, part_line, part_lines, part_sum as sum_of, origin_lines, standing_lines, publish_show as shown, cleaned as cleaned_line};
 
 use crate::put::{put_line, put_names, whole_line};
-use crate::words::{kind_word, place_text, prefix_word};
+use crate::words::place_text;
 use ap_text::{Name, SafePath};
 use control_stanza::Text;
-use machine_state::{Kind, Publication, State};
+use machine_state::{Kind, Publication, State, kind_word, prefix_word};
 use package_list::PackageList;
 use std::alloc::{AllocError, Global};
 use std::fmt::Write;

@@ -8,6 +8,7 @@ ghost use Rattle.reply_text.specs.Replies.{listed_line, packages_line, triple_li
 
 use ap_text::Name;
 use control_stanza::Text;
+use machine_state::{put_blank_and, put_names_behind};
 use package_core::Package;
 use package_list::{PackageList, SharedPackage};
 use std::alloc::{AllocError, Global};
@@ -35,15 +36,12 @@ pub fn put_line(out: &mut String, key: &str, value: &str) -> Result<(), AllocErr
 }
 
 /// A key, and a blank and the text where there is a text, on a line.
-#[tactic(auto, unfolding(crate::specs::Words::line))]
+#[tactic(auto, unfolding(crate::specs::Words::line), using(std::proofs::Common::append_assoc))]
 pub fn put_setting(out: &mut String, key: &str, text: &str) -> Result<(), AllocError>
     ensures { OnOk result (string_bytes out.new ≡ string_bytes out.old ++ line_of (key.now ++ blank_and text.now)) }
 {
     out.push_str(key)?;
-    if !text.is_empty() {
-        out.push_str(" ")?;
-        out.push_str(text)?;
-    }
+    put_blank_and(out, text)?;
     out.push_str("\n")?;
     Ok(())
 }
@@ -107,16 +105,6 @@ pub(crate) fn put_listed(out: &mut String, name: &Name, packages: usize) -> Resu
     out.push_str(" [")?;
     write!(out, "{packages}")?;
     out.push_str("]\n")?;
-    Ok(())
-}
-
-fn put_names_behind(out: &mut String, names: &[Name]) -> Result<(), AllocError>
-    ensures { OnOk result (string_bytes out.new ≡ string_bytes out.old ++ names_behind names.now) }
-{
-    for name in names {
-        out.push_str(" ")?;
-        out.push_str(name.as_str())?;
-    }
     Ok(())
 }
 

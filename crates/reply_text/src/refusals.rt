@@ -6,11 +6,11 @@ ghost use Rattle.reply_text.specs.Words.{kind_word as word_of_kind, limit_word a
 ghost use Rattle.reply_text.specs.Refusals.{refusal_text as text_of_refusal, refusal_line as line_of_refusal, usage_line as line_of_usage};
 
 use crate::put::whole_line;
-use crate::words::{kind_word, limit_word, place_text, prefix_word, shown, what_word};
+use crate::words::{limit_word, place_text, shown, what_word};
 use ap_text::{Name, SafePath};
 use control_stanza::Text;
 use digest_set::{Digits, What};
-use machine_state::{Kind, Limit, Refusal};
+use machine_state::{Kind, Limit, Refusal, kind_word, prefix_word};
 use std::alloc::{AllocError, Global};
 
 fn bad_name(alloc: Global, text: &Text) -> Result<String, AllocError>

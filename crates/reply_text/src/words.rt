@@ -1,22 +1,11 @@
 //! The words of the lines that are said.
 ghost use Rattle.std.specs.Prelude.{◌≡◌, IfOk, string_bytes};
-ghost use Rattle.reply_text.specs.Words.{kind_word as word_of_kind, limit_word as word_of_limit, what_word as word_of_fact, prefix_word as word_of_prefix, place_text as place_text_of, shown_char as shown_as, shown as shown_text};
+ghost use Rattle.reply_text.specs.Words.{limit_word as word_of_limit, what_word as word_of_fact, place_text as place_text_of, shown_char as shown_as, shown as shown_text};
 
 use ap_text::{Name, SafePath};
 use digest_set::What;
-use machine_state::{Kind, Limit};
+use machine_state::{Limit, prefix_word};
 use std::alloc::{AllocError, Global};
-
-pub(crate) fn kind_word(kind: Kind) -> &'static str
-    ensures { result.now ≡ word_of_kind kind }
-{
-    match kind {
-        Kind::Mirror => "mirror",
-        Kind::Repo => "repo",
-        Kind::Snapshot => "snapshot",
-        Kind::Component => "component",
-    }
-}
 
 pub(crate) fn limit_word(limit: Limit) -> &'static str
     ensures { result.now ≡ word_of_limit limit }
@@ -49,23 +38,13 @@ pub(crate) fn what_word(what: What) -> &'static str
     }
 }
 
-/// The prefix of a publication, `.` for none.
-pub(crate) fn prefix_word(prefix: &Option<SafePath>) -> &str
-    ensures { result.now ≡ word_of_prefix prefix.now }
-{
-    match prefix {
-        None => ".",
-        Some(path) => path.as_str(),
-    }
-}
-
 /// A publication: its prefix and its distribution.
 pub(crate) fn place_text(
     alloc: Global,
     prefix: &Option<SafePath>,
     dist: &Name,
 ) -> Result<String, AllocError>
-    ensures { IfOk result (λ made. string_bytes made ≡ place_text_of prefix.now dist.now) }
+    ensures { IfOk result (λ made. string_bytes made ≡ place_text_of (prefix.now, dist.now)) }
 {
     format!(in alloc; "{} {}", prefix_word(prefix), dist.as_str())
 }

@@ -1,7 +1,7 @@
 use Rattle.std.proofs.Common.{codes, sym, ◌∙◌, subst}
 use Rattle.machine_state.specs.Texts.{IsDate}
-use Rattle.catalogue_text.specs.MirrorLines.{blank_and}
-use Rattle.catalogue_text.proofs.ValueLemmas.{no_key, no_value, at_none, settings_apart}
+use Rattle.machine_state.specs.Words.{blank_and}
+use Rattle.catalogue_lines.proofs.ValueLemmas.{no_key, no_value, at_none, settings_apart}
 use Rattle.catalogue_text.proofs.mirror_values.date_line.Goals as goal
 
 pub returns-in-None : goal.returns-in-None

@@ -1,8 +1,8 @@
 use Rattle.std.proofs.Common.{codes, sym, ◌∙◌, List, ℕ, Option}
 use Rattle.query_tree.specs.Tree.{Tree}
-use Rattle.catalogue_text.specs.MirrorLines.{blank_and, filter_text}
+use Rattle.machine_state.specs.Words.{blank_and, filter_text}
 use Rattle.catalogue_text.specs.MirrorReading.{IsChoice}
-use Rattle.catalogue_text.proofs.ValueLemmas.{no_key, no_value, at_none, settings_apart}
+use Rattle.catalogue_lines.proofs.ValueLemmas.{no_key, no_value, at_none, settings_apart}
 use Rattle.catalogue_text.proofs.mirror_values.filter_line.Goals as goal
 
 abbrev setting : Option Tree → List ℕ

@@ -1,6 +1,6 @@
-use Rattle.catalogue_text.specs.MirrorLines.{yes_or_no}
+use Rattle.machine_state.specs.Words.{yes_or_no}
 use Rattle.catalogue_text.specs.MirrorReading.{IsEither}
-use Rattle.catalogue_text.proofs.ValueLemmas.{no_key, no_value}
+use Rattle.catalogue_lines.proofs.ValueLemmas.{no_key, no_value}
 use Rattle.catalogue_text.proofs.mirror_values.flag_line.Goals as goal
 
 pub returns-in-None : goal.returns-in-None

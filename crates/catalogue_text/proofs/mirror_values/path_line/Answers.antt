@@ -1,7 +1,7 @@
 use Rattle.std.proofs.Common.{List, ℕ}
 use Rattle.machine_state.specs.Texts.{is_path}
 use Rattle.catalogue_text.specs.MirrorReading.{IsPath}
-use Rattle.catalogue_text.proofs.ValueLemmas.{no_key, no_value, not_value}
+use Rattle.catalogue_lines.proofs.ValueLemmas.{no_key, no_value, not_value}
 use Rattle.catalogue_text.proofs.mirror_values.path_line.Goals as goal
 
 pub returns-in-None : goal.returns-in-None

@@ -1,6 +1,6 @@
 use Rattle.std.specs.Option.{option_map}
 use Rattle.query_tree.specs.Tree.{plain}
-use Rattle.catalogue_text.proofs.ValueLemmas.{at_default, at_some}
+use Rattle.catalogue_lines.proofs.ValueLemmas.{at_default, at_some}
 use Rattle.catalogue_text.proofs.MirrorParts.{choice_first, choice_second}
 use Rattle.catalogue_text.proofs.mirrors.read_choice.Goals as goal
 

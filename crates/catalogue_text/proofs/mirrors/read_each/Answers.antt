@@ -4,10 +4,10 @@ use Rattle.machine_state.specs.Ascending.{IsAscending}
 use Rattle.machine_state.specs.State.{mirror_name, mirror_cmp}
 use Rattle.catalogue_text.specs.Root.{mirror_pieces}
 use Rattle.catalogue_text.specs.Grammar.{NextMirror}
-use Rattle.catalogue_text.specs.Reading.{Stops}
+use Rattle.catalogue_lines.specs.Reading.{Stops}
 use Rattle.catalogue_text.specs.MirrorReading.{GoodMirror}
-use Rattle.catalogue_text.proofs.ValidLemmas.{names_each}
-use Rattle.catalogue_text.proofs.ReadLemmas.{reads_more, if_before}
+use Rattle.catalogue_lines.proofs.NameLemmas.{names_each}
+use Rattle.catalogue_lines.proofs.ReadLemmas.{reads_more, if_before}
 use Rattle.catalogue_text.proofs.MirrorParts.{stops_mirrors}
 use Rattle.catalogue_text.proofs.mirrors.read_each.Goals as goal
 

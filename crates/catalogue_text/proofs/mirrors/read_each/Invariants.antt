@@ -1,8 +1,8 @@
 use Rattle.std.proofs.Common.{◌≡◌, [], length}
 use Rattle.std.specs.List.{flat_map}
-use Rattle.catalogue_text.specs.Pieces.{Takes}
+use Rattle.catalogue_lines.specs.Pieces.{Takes}
 use Rattle.catalogue_text.specs.Root.{mirror_pieces}
-use Rattle.catalogue_text.specs.Reading.{Each}
+use Rattle.catalogue_lines.specs.Reading.{Each}
 use Rattle.catalogue_text.specs.MirrorReading.{GoodMirror}
 use Rattle.catalogue_text.proofs.mirrors.read_each.Given as goal
 

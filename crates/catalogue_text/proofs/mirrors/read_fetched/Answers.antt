@@ -1,5 +1,5 @@
-use Rattle.catalogue_text.proofs.ValueLemmas.{at_default, at_some}
-use Rattle.catalogue_text.proofs.ReadLemmas.{if_before}
+use Rattle.catalogue_lines.proofs.ValueLemmas.{at_default, at_some}
+use Rattle.catalogue_lines.proofs.ReadLemmas.{if_before}
 use Rattle.catalogue_text.proofs.MirrorParts.{dated_first, dated_second}
 use Rattle.catalogue_text.proofs.mirrors.read_fetched.Goals as goal
 

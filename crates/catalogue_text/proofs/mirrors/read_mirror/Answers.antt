@@ -3,15 +3,15 @@ use Rattle.std.specs.Option.{option_map}
 use Rattle.query_tree.specs.Tree.{plain}
 use Rattle.machine_state.specs.Values.{MirrorView}
 use Rattle.catalogue_text.specs.Root.{mirror_pieces}
-use Rattle.catalogue_text.specs.Reading.{ReadsPart}
+use Rattle.catalogue_lines.specs.Reading.{ReadsPart}
 use Rattle.catalogue_text.specs.MirrorReading.{GoodMirror}
 use Rattle.machine_state.specs.State.{mirror_name}
 use Rattle.catalogue_text.specs.MirrorLines.{mirror_line}
-use Rattle.catalogue_text.specs.Grammar.{IsNext}
-use Rattle.catalogue_text.proofs.Parts.{stops_line}
-use Rattle.catalogue_text.proofs.ValueLemmas.{at_default, at_some}
-use Rattle.catalogue_text.proofs.NameLemmas.{not_next}
-use Rattle.catalogue_text.proofs.ReadLemmas.{if_before}
+use Rattle.catalogue_lines.specs.PartForms.{IsNext}
+use Rattle.catalogue_lines.proofs.Parts.{stops_line}
+use Rattle.catalogue_lines.proofs.ValueLemmas.{at_default, at_some}
+use Rattle.catalogue_lines.proofs.NameLemmas.{not_next}
+use Rattle.catalogue_lines.proofs.ReadLemmas.{if_before}
 use Rattle.catalogue_text.proofs.MirrorParts.{at_mirror, at_settings, at_updated, mirror_read}
 use Rattle.catalogue_text.proofs.mirrors.read_mirror.Goals as goal
 

@@ -1,4 +1,4 @@
-use Rattle.catalogue_text.proofs.ReadLemmas.{if_ok, if_stop}
+use Rattle.catalogue_lines.proofs.ReadLemmas.{if_ok, if_stop}
 use Rattle.catalogue_text.proofs.MirrorParts.{mirrors_count, mirrors_rest, mirrors_read}
 use Rattle.catalogue_text.proofs.mirrors.read_mirrors.Goals as goal
 

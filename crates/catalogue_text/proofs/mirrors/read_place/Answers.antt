@@ -1,4 +1,4 @@
-use Rattle.catalogue_text.proofs.ValueLemmas.{at_default, at_some}
+use Rattle.catalogue_lines.proofs.ValueLemmas.{at_default, at_some}
 use Rattle.catalogue_text.proofs.MirrorParts.{place_first, place_second}
 use Rattle.catalogue_text.proofs.mirrors.read_place.Goals as goal
 

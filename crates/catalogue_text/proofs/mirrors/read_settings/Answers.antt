@@ -1,6 +1,6 @@
 use Rattle.std.specs.Option.{option_map}
 use Rattle.query_tree.specs.Tree.{plain}
-use Rattle.catalogue_text.proofs.ReadLemmas.{if_before}
+use Rattle.catalogue_lines.proofs.ReadLemmas.{if_before}
 use Rattle.catalogue_text.proofs.MirrorParts.{settings_first, settings_second, settings_third, settings_read}
 use Rattle.catalogue_text.proofs.mirrors.read_settings.Goals as goal
 

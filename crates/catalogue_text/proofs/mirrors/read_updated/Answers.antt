@@ -1,7 +1,7 @@
 use Rattle.std.proofs.Common.{Bool, subst}
-use Rattle.catalogue_text.specs.Lines.{IsLine}
+use Rattle.catalogue_lines.specs.Lines.{IsLine}
 use Rattle.catalogue_text.specs.MirrorLines.{updated_line}
-use Rattle.catalogue_text.proofs.ReadLemmas.{if_before}
+use Rattle.catalogue_lines.proofs.ReadLemmas.{if_before}
 use Rattle.catalogue_text.proofs.MirrorParts.{updated_first, updated_rest}
 use Rattle.catalogue_text.proofs.mirrors.read_updated.Goals as goal
 

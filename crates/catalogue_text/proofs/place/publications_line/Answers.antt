@@ -1,8 +1,10 @@
 use Rattle.std.proofs.Common.{◌++◌, ◌∙◌, suc, ap}
 use Rattle.machine_state.specs.Values.{StateView}
-use Rattle.catalogue_text.specs.Lines.{line_ends}
+use Rattle.catalogue_lines.specs.Lines.{line_ends}
 use Rattle.catalogue_text.specs.Places.{front_pieces, publications_place}
-use Rattle.catalogue_text.specs.Root.{joined, known_pieces, mirrors_pieces, repos_pieces, snapshots_pieces}
+use Rattle.catalogue_lines.specs.Pieces.{joined}
+use Rattle.catalogue_lines.specs.KnownForms.{known_pieces}
+use Rattle.catalogue_text.specs.Root.{mirrors_pieces, repos_pieces, snapshots_pieces}
 use Rattle.catalogue_text.proofs.place.publications_line.Goals as goal
 
 pub returns : goal.returns

@@ -1,6 +1,7 @@
 use Rattle.std.proofs.Common.{◌++◌, ◌∙◌, ap, sym, string_bytes}
-use Rattle.catalogue_text.specs.Root.{known_pieces, mirrors_pieces, repos_pieces, snapshots_pieces}
-use Rattle.catalogue_text.proofs.WriteLemmas.{join_four, on_ok, then_one, then_two}
+use Rattle.catalogue_lines.specs.KnownForms.{known_pieces}
+use Rattle.catalogue_text.specs.Root.{mirrors_pieces, repos_pieces, snapshots_pieces}
+use Rattle.catalogue_lines.proofs.WriteLemmas.{join_four, on_ok, then_one, then_two}
 use Rattle.catalogue_text.proofs.place.put_front.Goals as goal
 
 pub returns : goal.returns

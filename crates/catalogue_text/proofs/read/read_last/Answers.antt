@@ -1,6 +1,6 @@
 use Rattle.std.proofs.Common.{sym, ◌∙◌}
 use Rattle.std.proofs.lemmas.Bool.{true≢false}
-use Rattle.catalogue_text.proofs.ReadLemmas.{last_stops, last_read}
+use Rattle.catalogue_text.proofs.RootReads.{last_stops, last_read}
 use Rattle.catalogue_text.proofs.read.read_last.Goals as goal
 
 pub returns-in_default : goal.returns-in_default

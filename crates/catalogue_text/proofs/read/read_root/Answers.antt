@@ -1,5 +1,5 @@
 use Rattle.std.proofs.Common.{◌∙◌}
-use Rattle.catalogue_text.proofs.TakesLemmas.{number_is}
+use Rattle.catalogue_lines.proofs.TakesLemmas.{number_is}
 use Rattle.catalogue_text.proofs.StateLemmas.{first_bad}
 use Rattle.catalogue_text.proofs.read.read_root.Goals as goal
 

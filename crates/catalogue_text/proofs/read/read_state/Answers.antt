@@ -3,12 +3,13 @@ use Rattle.machine_state.specs.declared.repo.Repo.{Repo}
 use Rattle.machine_state.specs.declared.snapshot.Snapshot.{Snapshot}
 use Rattle.machine_state.specs.Ascending.{IsAscending}
 use Rattle.machine_state.specs.State.{repo_name, repo_cmp, snapshot_name, snapshot_cmp}
-use Rattle.catalogue_text.specs.Root.{publications_pieces}
-use Rattle.catalogue_text.specs.Grammar.{PublicationsPart}
-use Rattle.catalogue_text.specs.Reading.{Stops, ReadsPart, GoodRepo, GoodSnapshot}
-use Rattle.catalogue_text.specs.PublicationReading.{GoodPublications}
-use Rattle.catalogue_text.proofs.ReadLemmas.{if_before}
-use Rattle.catalogue_text.proofs.ValidLemmas.{names_each}
+use Rattle.catalogue_publications.specs.PublicationLines.{publications_pieces}
+use Rattle.catalogue_publications.specs.PublicationGrammar.{PublicationsPart}
+use Rattle.catalogue_lines.specs.Reading.{Stops, ReadsPart}
+use Rattle.catalogue_text.specs.RootReading.{GoodRepo, GoodSnapshot}
+use Rattle.catalogue_publications.specs.PublicationReading.{GoodPublications}
+use Rattle.catalogue_lines.proofs.ReadLemmas.{if_before}
+use Rattle.catalogue_lines.proofs.NameLemmas.{names_each}
 use Rattle.catalogue_text.proofs.StateLemmas.{ReadKnown, ReadMirrors, ReadRepos, ReadSnapshots, ReadPublications, AllRead, stops_in_known, stops_in_mirrors, stops_in_repos, stops_in_snapshots, stops_in_publications, stops_in_last, stops_at_end, found_state}
 use Rattle.catalogue_text.proofs.read.read_state.Goals as goal
 

@@ -4,9 +4,11 @@ use Rattle.machine_state.specs.Ascending.{IsAscending}
 use Rattle.machine_state.specs.State.{repo_name, repo_cmp}
 use Rattle.catalogue_text.specs.Root.{repo_pieces}
 use Rattle.catalogue_text.specs.Grammar.{NextRepo}
-use Rattle.catalogue_text.specs.Reading.{Stops, GoodRepo}
-use Rattle.catalogue_text.proofs.ValidLemmas.{names_each}
-use Rattle.catalogue_text.proofs.ReadLemmas.{reads_more, stops_repos, if_before}
+use Rattle.catalogue_lines.specs.Reading.{Stops}
+use Rattle.catalogue_text.specs.RootReading.{GoodRepo}
+use Rattle.catalogue_lines.proofs.NameLemmas.{names_each}
+use Rattle.catalogue_lines.proofs.ReadLemmas.{reads_more, if_before}
+use Rattle.catalogue_text.proofs.RootReads.{stops_repos}
 use Rattle.catalogue_text.proofs.repos.read_each.Goals as goal
 
 pub read_repo-requires-clause-sorted : goal.read_repo-requires-clause-sorted

@@ -1,12 +1,13 @@
 use Rattle.std.proofs.Common.{codes}
 use Rattle.machine_state.specs.State.{IsLineText, repo_name}
 use Rattle.catalogue_text.specs.Root.{name_line, comment_line, distribution_line, component_line}
-use Rattle.catalogue_text.specs.Grammar.{IsNext}
-use Rattle.catalogue_text.proofs.Parts.{stops_line}
+use Rattle.catalogue_lines.specs.PartForms.{IsNext}
+use Rattle.catalogue_lines.proofs.Parts.{stops_line}
 use Rattle.catalogue_text.proofs.RootParts.{IsDistribution, IsComponent}
-use Rattle.catalogue_text.proofs.ValueLemmas.{at_default, at_some}
-use Rattle.catalogue_text.proofs.NameLemmas.{not_next}
-use Rattle.catalogue_text.proofs.ReadLemmas.{at_name, past_name, at_comment, past_comment, at_distribution, past_distribution, at_component, past_component, at_set, repo_read, if_before}
+use Rattle.catalogue_lines.proofs.ValueLemmas.{at_default, at_some}
+use Rattle.catalogue_lines.proofs.NameLemmas.{not_next}
+use Rattle.catalogue_text.proofs.RootReads.{at_name, past_name, at_comment, past_comment, at_distribution, past_distribution, at_component, past_component, at_set, repo_read}
+use Rattle.catalogue_lines.proofs.ReadLemmas.{if_before}
 use Rattle.catalogue_text.proofs.repos.read_repo.Goals as goal
 
 pub returns-in_default-clause-stops : goal.returns-in_default-clause-stops

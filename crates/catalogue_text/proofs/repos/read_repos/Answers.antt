@@ -1,4 +1,5 @@
-use Rattle.catalogue_text.proofs.ReadLemmas.{repos_count, repos_rest, repos_read, if_ok, if_stop}
+use Rattle.catalogue_text.proofs.RootReads.{repos_count, repos_rest, repos_read}
+use Rattle.catalogue_lines.proofs.ReadLemmas.{if_ok, if_stop}
 use Rattle.catalogue_text.proofs.repos.read_repos.Goals as goal
 
 pub returns-in_default-clause-stops : goal.returns-in_default-clause-stops

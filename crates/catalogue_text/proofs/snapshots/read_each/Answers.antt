@@ -4,9 +4,11 @@ use Rattle.machine_state.specs.Ascending.{IsAscending}
 use Rattle.machine_state.specs.State.{snapshot_name, snapshot_cmp}
 use Rattle.catalogue_text.specs.Root.{snapshot_pieces}
 use Rattle.catalogue_text.specs.Grammar.{NextSnapshot}
-use Rattle.catalogue_text.specs.Reading.{Stops, GoodSnapshot}
-use Rattle.catalogue_text.proofs.ValidLemmas.{names_each}
-use Rattle.catalogue_text.proofs.ReadLemmas.{reads_more, stops_snapshots, if_before}
+use Rattle.catalogue_lines.specs.Reading.{Stops}
+use Rattle.catalogue_text.specs.RootReading.{GoodSnapshot}
+use Rattle.catalogue_lines.proofs.NameLemmas.{names_each}
+use Rattle.catalogue_lines.proofs.ReadLemmas.{reads_more, if_before}
+use Rattle.catalogue_text.proofs.RootReads.{stops_snapshots}
 use Rattle.catalogue_text.proofs.snapshots.read_each.Goals as goal
 
 pub read_snapshot-requires-clause-sorted : goal.read_snapshot-requires-clause-sorted

@@ -1,8 +1,9 @@
 use Rattle.std.proofs.Common.{◌≡◌, [], length}
 use Rattle.std.specs.List.{flat_map}
-use Rattle.catalogue_text.specs.Pieces.{Takes}
+use Rattle.catalogue_lines.specs.Pieces.{Takes}
 use Rattle.catalogue_text.specs.Root.{snapshot_pieces}
-use Rattle.catalogue_text.specs.Reading.{Each, GoodSnapshot}
+use Rattle.catalogue_lines.specs.Reading.{Each}
+use Rattle.catalogue_text.specs.RootReading.{GoodSnapshot}
 use Rattle.catalogue_text.proofs.snapshots.read_each.Given as goal
 
 abbrev pub invariant-loop-read : goal.invariant-loop-read

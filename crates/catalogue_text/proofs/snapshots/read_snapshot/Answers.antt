@@ -1,11 +1,12 @@
 use Rattle.std.proofs.Common.{codes}
 use Rattle.machine_state.specs.State.{snapshot_name}
 use Rattle.catalogue_text.specs.Root.{snapshot_line}
-use Rattle.catalogue_text.specs.Grammar.{IsNext}
-use Rattle.catalogue_text.proofs.Parts.{stops_line}
-use Rattle.catalogue_text.proofs.ValueLemmas.{at_default, at_some}
-use Rattle.catalogue_text.proofs.NameLemmas.{not_next}
-use Rattle.catalogue_text.proofs.ReadLemmas.{at_title, past_title, snapshot_read, if_before}
+use Rattle.catalogue_lines.specs.PartForms.{IsNext}
+use Rattle.catalogue_lines.proofs.Parts.{stops_line}
+use Rattle.catalogue_lines.proofs.ValueLemmas.{at_default, at_some}
+use Rattle.catalogue_lines.proofs.NameLemmas.{not_next}
+use Rattle.catalogue_text.proofs.RootReads.{at_title, past_title, snapshot_read}
+use Rattle.catalogue_lines.proofs.ReadLemmas.{if_before}
 use Rattle.catalogue_text.proofs.snapshots.read_snapshot.Goals as goal
 
 pub returns-in_default-clause-stops : goal.returns-in_default-clause-stops

@@ -1,4 +1,5 @@
-use Rattle.catalogue_text.proofs.ReadLemmas.{snapshots_count, snapshots_rest, snapshots_read, if_ok, if_stop}
+use Rattle.catalogue_text.proofs.RootReads.{snapshots_count, snapshots_rest, snapshots_read}
+use Rattle.catalogue_lines.proofs.ReadLemmas.{if_ok, if_stop}
 use Rattle.catalogue_text.proofs.snapshots.read_snapshots.Goals as goal
 
 pub returns-in_default-clause-stops : goal.returns-in_default-clause-stops

@@ -1,6 +1,7 @@
 use Rattle.std.proofs.Common.{◌≡◌, ◌++◌, take, string_bytes}
 use Rattle.std.specs.List.{flat_map}
-use Rattle.catalogue_text.specs.Root.{joined, snapshot_pieces}
+use Rattle.catalogue_lines.specs.Pieces.{joined}
+use Rattle.catalogue_text.specs.Root.{snapshot_pieces}
 use Rattle.catalogue_text.proofs.write.put_each_snapshot.Given as goal
 
 abbrev pub invariant-loop-snapshot : goal.invariant-loop-snapshot

@@ -1,7 +1,9 @@
 use Rattle.std.proofs.Common.{◌++◌, ◌∙◌, ap, codes, string_bytes}
-use Rattle.catalogue_text.specs.Pieces.{alone, piece_text}
-use Rattle.catalogue_text.specs.Root.{blank_and, name_line, comment_line, component_line, repo_pieces, set_pieces, joined}
-use Rattle.catalogue_text.proofs.WriteLemmas.{on_ok, then_four}
+use Rattle.catalogue_lines.specs.Pieces.{alone, piece_text, joined}
+use Rattle.machine_state.specs.Words.{blank_and}
+use Rattle.catalogue_text.specs.Root.{name_line, comment_line, component_line, repo_pieces}
+use Rattle.catalogue_lines.specs.SetLines.{set_pieces}
+use Rattle.catalogue_lines.proofs.WriteLemmas.{on_ok, then_four}
 use Rattle.catalogue_text.proofs.write.put_repo.Goals as goal
 
 pub returns : goal.returns

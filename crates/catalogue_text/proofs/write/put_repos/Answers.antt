@@ -1,7 +1,8 @@
 use Rattle.std.proofs.Common.{string_bytes}
 use Rattle.std.specs.List.{flat_map}
-use Rattle.catalogue_text.specs.Root.{repo_pieces, repos_pieces, joined}
-use Rattle.catalogue_text.proofs.WriteLemmas.{on_ok, then_one}
+use Rattle.catalogue_text.specs.Root.{repo_pieces, repos_pieces}
+use Rattle.catalogue_lines.specs.Pieces.{joined}
+use Rattle.catalogue_lines.proofs.WriteLemmas.{on_ok, then_one}
 use Rattle.catalogue_text.proofs.write.put_repos.Goals as goal
 
 pub returns : goal.returns

@@ -1,7 +1,8 @@
 use Rattle.std.proofs.Common.{◌++◌, ◌∙◌, ap, string_bytes}
-use Rattle.catalogue_text.specs.Pieces.{alone, piece_text}
-use Rattle.catalogue_text.specs.Root.{snapshot_line, snapshot_pieces, set_pieces, joined}
-use Rattle.catalogue_text.proofs.WriteLemmas.{on_ok, then_one}
+use Rattle.catalogue_lines.specs.Pieces.{alone, piece_text, joined}
+use Rattle.catalogue_text.specs.Root.{snapshot_line, snapshot_pieces}
+use Rattle.catalogue_lines.specs.SetLines.{set_pieces}
+use Rattle.catalogue_lines.proofs.WriteLemmas.{on_ok, then_one}
 use Rattle.catalogue_text.proofs.write.put_snapshot.Goals as goal
 
 pub returns : goal.returns

@@ -1,8 +1,10 @@
 use Rattle.std.proofs.Common.{◌∙◌, ◌++◌, ap, string_bytes}
 use Rattle.machine_state.specs.Values.{StateView}
-use Rattle.catalogue_text.specs.Root.{joined, mirrors_pieces, repos_pieces, snapshots_pieces, publications_pieces, root_text}
-use Rattle.catalogue_text.proofs.ReadLemmas.{if_ok}
-use Rattle.catalogue_text.proofs.WriteLemmas.{whole_text}
+use Rattle.catalogue_lines.specs.Pieces.{joined}
+use Rattle.catalogue_text.specs.Root.{mirrors_pieces, repos_pieces, snapshots_pieces, root_text}
+use Rattle.catalogue_publications.specs.PublicationLines.{publications_pieces}
+use Rattle.catalogue_lines.proofs.ReadLemmas.{if_ok}
+use Rattle.catalogue_text.proofs.RootWrites.{whole_text}
 use Rattle.catalogue_text.proofs.write.root_text.Goals as goal
 
 pub returns : goal.returns

@@ -1,8 +1,8 @@
 use Rattle.std.proofs.Common.{true, ◌++◌, ◌∙◌, ap, string_bytes}
-use Rattle.catalogue_text.specs.Pieces.{alone, piece_text}
+use Rattle.catalogue_lines.specs.Pieces.{alone, piece_text, joined}
 use Rattle.catalogue_text.specs.MirrorLines.{updated_line, date_line}
-use Rattle.catalogue_text.specs.Root.{joined, set_pieces}
-use Rattle.catalogue_text.proofs.WriteLemmas.{on_ok, then_two}
+use Rattle.catalogue_lines.specs.SetLines.{set_pieces}
+use Rattle.catalogue_lines.proofs.WriteLemmas.{on_ok, then_two}
 use Rattle.catalogue_text.proofs.write_mirrors.put_fetched.Goals as goal
 
 pub returns : goal.returns

@@ -1,10 +1,10 @@
 use Rattle.std.proofs.Common.{◌++◌, ◌∙◌, sym, ap, string_bytes}
 use Rattle.machine_state.specs.Values.{MirrorView}
-use Rattle.catalogue_text.specs.Pieces.{alone, piece_text}
+use Rattle.catalogue_lines.specs.Pieces.{alone, piece_text, joined}
 use Rattle.catalogue_text.specs.MirrorLines.{mirror_line}
-use Rattle.catalogue_text.specs.Root.{joined, updated_pieces, mirror_pieces}
+use Rattle.catalogue_text.specs.Root.{updated_pieces, mirror_pieces}
 use Rattle.catalogue_text.specs.MirrorReading.{place_pieces, lists_pieces, choice_pieces}
-use Rattle.catalogue_text.proofs.WriteLemmas.{on_ok, then_four, join_four}
+use Rattle.catalogue_lines.proofs.WriteLemmas.{on_ok, then_four, join_four}
 use Rattle.catalogue_text.proofs.write_mirrors.put_mirror.Goals as goal
 
 pub returns : goal.returns

@@ -1,8 +1,8 @@
 use Rattle.std.proofs.Common.{◌++◌, ◌∙◌, ap, string_bytes}
 use Rattle.machine_state.specs.Values.{MirrorView}
-use Rattle.catalogue_text.specs.Pieces.{alone, piece_text}
+use Rattle.catalogue_lines.specs.Pieces.{alone, piece_text}
 use Rattle.catalogue_text.specs.MirrorLines.{archive_line, place_line}
-use Rattle.catalogue_text.proofs.WriteLemmas.{on_ok, two}
+use Rattle.catalogue_lines.proofs.WriteLemmas.{on_ok, two}
 use Rattle.catalogue_text.proofs.write_mirrors.put_place.Goals as goal
 
 pub returns : goal.returns

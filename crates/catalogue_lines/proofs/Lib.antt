@@ -1,0 +1,15 @@
+pub mod LineLemmas
+pub mod ValueLemmas
+pub mod Parts
+pub mod PlainLemmas
+pub mod KnownParts
+pub mod SetPieces
+pub mod TakesLemmas
+pub mod ValidLemmas
+pub mod OrderLemmas
+pub mod NameLemmas
+pub mod KnownLemmas
+pub mod ReadLemmas
+pub mod WriteLemmas
+pub mod Forms
+pub mod SharedValues

@@ -1,0 +1,10 @@
+pub mod PublicationLines
+pub mod PublicationGrammar
+pub mod PublicationReading
+pub use Rattle.catalogue_lines.specs.Lines
+pub use Rattle.catalogue_lines.specs.Pieces
+pub use Rattle.catalogue_lines.specs.SetLines
+pub use Rattle.catalogue_lines.specs.PartForms
+pub use Rattle.catalogue_lines.specs.NameLines
+pub use Rattle.catalogue_lines.specs.KnownForms
+pub use Rattle.catalogue_lines.specs.Reading

@@ -1,5 +1,0 @@
-use Rattle.catalogue_text.proofs.ValueLemmas.{no_name}
-use Rattle.catalogue_text.proofs.values.name_of_bytes.Goals as goal
-
-pub returns-in-None : goal.returns-in-None
-returns-in-None c = no_name c.args.bytes.now c.in-None.ensures

@@ -1,7 +1,0 @@
-use Rattle.std.proofs.Common.{◌≡◌, ◌++◌, take, string_bytes}
-use Rattle.catalogue_text.specs.Root.{joined}
-use Rattle.catalogue_text.specs.PublicationLines.{parts_pieces}
-use Rattle.catalogue_text.proofs.write_publications.put_parts.Given as goal
-
-abbrev pub invariant-loop-part : goal.invariant-loop-part
-invariant-loop-part l = string_bytes l.out ≡ string_bytes l.fn.out ++ joined (parts_pieces (take l.part-index l.parts))

@@ -1,6 +1,0 @@
-use Rattle.std.proofs.Common.{◌≡◌, ◌++◌, take, string_bytes}
-use Rattle.reply_text.specs.Words.{names_behind}
-use Rattle.reply_text.proofs.put.put_names_behind.Given as goal
-
-abbrev pub invariant-loop-name : goal.invariant-loop-name
-invariant-loop-name l = string_bytes l.out ≡ string_bytes l.fn.out ++ names_behind (take l.name-index l.names)
