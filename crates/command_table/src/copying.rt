@@ -1,9 +1,16 @@
-//! Copies of what commands are made of.
+//! Copies of commands, and of what they are made of.
 ghost use Rattle.std.specs.Prelude.{◌≡◌, IfOk, option_map};
-ghost use Rattle.command_table.specs.Plain.{plain_follow};
+ghost use Rattle.command_table.specs.Plain.{plain, plain_follow};
 
-use crate::command::{Follow, Origin};
+mod mirror;
+mod other;
+mod publish;
+mod repo;
+mod snapshot;
+
+use crate::command::{Command, Follow, Origin};
 use control_stanza::Text;
+use mirror::copy_mirror;
 use std::alloc::{AllocError, Global};
 
 /// Copies of texts.
@@ -23,6 +30,16 @@ fn copies_in(alloc: Global, list: &Option<Vec<Text>>) -> Result<Option<Vec<Text>
 {
     match list {
         Some(texts) => Ok(Some(copies(alloc, texts.as_slice())?)),
+        None => Ok(None),
+    }
+}
+
+/// A copy of a text, where there is one.
+fn copy_in(alloc: Global, text: &Option<Text>) -> Result<Option<Text>, AllocError>
+    ensures { IfOk result (λ made. made ≡ text.now) }
+{
+    match text {
+        Some(text) => Ok(Some(text.copy(alloc)?)),
         None => Ok(None),
     }
 }
@@ -50,5 +67,14 @@ impl Origin {
             Origin::Repo(name) => Ok(Origin::Repo(name.copy(alloc)?)),
             Origin::Empty => Ok(Origin::Empty),
         }
+    }
+}
+
+impl Command {
+    /// The same command once more. Fails only for want of memory.
+    pub fn copy(&self, alloc: Global) -> Result<Command, AllocError>
+        ensures { IfOk result (λ made. plain made ≡ plain self.now) }
+    {
+        copy_mirror(alloc, self)
     }
 }

@@ -14,6 +14,15 @@ pub enum WordFault {
     OutOfMemory,
 }
 
+impl WordFault {
+    /// The same fault once more.
+    pub fn copy(&self) -> WordFault
+        ensures { result ≡ self.now }
+    {
+        *self
+    }
+}
+
 impl From<AllocError> for WordFault {
     ghost from_gives = { λ _ e. e ≡ OutOfMemory };
 

@@ -4,3 +4,4 @@ pub mod QueryLemmas
 pub mod StepLemmas
 pub mod FaultLemmas
 pub mod AskingLemmas
+pub mod OwnLemmas

@@ -2,6 +2,7 @@
 use Rattle.std.specs.Prelude.{◌≡◌, ◌≢◌, ◌⊎◌, ℕ, List, Option, Some, None, Result, Ok, Err, unwrap_or}
 use Rattle.run_model.specs.Run.{Outcome}
 use Rattle.ap_host.specs.Calls.{Rose}
+use Rattle.query_eval.specs.declared.patterns.Patterns.{Ghosts as Builder}
 use Rattle.machine_state.specs.declared.change.Change.{Change}
 use Rattle.machine_state.specs.declared.change.ChangeFault.{ChangeFault}
 use Rattle.machine_state.specs.declared.change.ChangeFault.TheVariants as faults
@@ -24,6 +25,10 @@ IsTold old new refused (Some text) = Rose old new × (refused ≡ Some text)
 abbrev pub Told : ℕ → ℕ → Option (List ℕ) → (Option (List ℕ) → Type 0) → Type 0
 Told old new refused P = (large : Option (List ℕ)) × IsTold old new refused large × P large
 
+-- the same of a call to which a pattern builder was handed in, which was so before and is so now
+abbrev pub ToldBy : {B : Type 0} → Builder B → B → B → (Option (List ℕ) → Type 0) → Type 0
+ToldBy builder old new P = Told (builder.refusals old) (builder.refusals new) (builder.refused new) P
+
 -- which text was refused for its size changes only where such a pattern is told
 abbrev pub KeepsBut : Option (List ℕ) → Option (List ℕ) → ChangeFault → Type 0
 KeepsBut old new (faults.Refused (PatternTooLarge query test)) = Unit {0}
@@ -32,6 +37,9 @@ KeepsBut old new fault = new ≡ old
 abbrev pub KeepsText : {X : Type 0} → Option (List ℕ) → Option (List ℕ) → Result X ChangeFault → Type 0
 KeepsText old new (Ok x) = new ≡ old
 KeepsText old new (Err fault) = KeepsBut old new fault
+
+abbrev pub KeepsBy : {B X : Type 0} → Builder B → B → B → Result X ChangeFault → Type 0
+KeepsBy builder old new result = KeepsText (builder.refused old) (builder.refused new) result
 
 -- P of the refusal of a call that refuses
 abbrev pub FaultIs : (Refusal → Type 0) → ChangeFault → Type 0
@@ -83,3 +91,19 @@ ComesTo large case arrived came = Refuses large case None × (case.comes arrived
 -- the command is refused so: before anything is read, or with what arrived
 abbrev pub IsRefusedFor : Option (List ℕ) → Case → Arrived → Refusal → Type 0
 IsRefusedFor large case arrived refusal = Refuses large case (Some refusal) ⊎ ComesTo large case arrived (refuses refusal)
+
+-- the command comes to this change of the state with what arrived, whatever text was too large
+abbrev pub ChangesTo : StateView → Case → Arrived → Change → Type 0
+ChangesTo state case arrived change = ComesTo None case arrived (came state change)
+
+-- the same in a call to which a pattern builder was handed in
+abbrev pub ChangesBy : {B : Type 0} → Builder B → B → B → StateView → Case → Arrived → Change → Type 0
+ChangesBy builder old new state case arrived change = ToldBy builder old new (λ large. ComesTo large case arrived (came state change))
+
+-- the call refuses it so before anything is read, or memory was wanting
+abbrev pub RefusesBy : {B : Type 0} → Builder B → B → B → Case → ChangeFault → Type 0
+RefusesBy builder old new case = FaultIs (λ refusal. ToldBy builder old new (λ large. Refuses large case (Some refusal)))
+
+-- the call refuses it so with what arrived, or memory was wanting
+abbrev pub RefusedBy : {B : Type 0} → Builder B → B → B → Case → Arrived → ChangeFault → Type 0
+RefusedBy builder old new case arrived = FaultIs (λ refusal. ToldBy builder old new (λ large. IsRefusedFor large case arrived refusal))

@@ -6,7 +6,7 @@ ghost use Rattle.query_tree.specs.Tree.{plain, plains};
 ghost use Rattle.query_grammar.specs.Said.{query_of};
 ghost use Rattle.query_eval.specs.Conditions.{patterns_of};
 ghost use Rattle.query_eval.specs.Truth.{matches};
-ghost use Rattle.step_model.specs.Answers.{AreBuilt, FaultIs, IsFirst, KeepsText, QueriesRefuse, Told};
+ghost use Rattle.step_model.specs.Answers.{AreBuilt, FaultIs, IsFirst, KeepsBy, QueriesRefuse, ToldBy};
 ghost use Rattle.step_model.specs.Case.{bad_query, bad_queries, conditions_behind, numbered};
 ghost use Rattle.step_model.specs.Queries.{chosen, some_true};
 ghost use Rattle.step_model.specs.Refuses.{IsPick};
@@ -57,9 +57,9 @@ fn built<M: Patterns>(
 ) -> Result<Prepared, ChangeFault>
     ensures same { IfOk result (λ made. made ≡ plain query.now) }
     ensures read { OnOk result (IsPick None (numbered number 0 (patterns_of (plain query.now))) None) }
-    ensures fault { IfErr result (FaultIs (λ refusal. Told (M.refusals patterns.old) (M.refusals patterns.new) (M.refused patterns.new) (λ large. IsPick large (numbered number 0 (patterns_of (plain query.now))) (Some refusal)))) }
+    ensures fault { IfErr result (FaultIs (λ refusal. ToldBy M.Patterns patterns.old patterns.new (λ large. IsPick large (numbered number 0 (patterns_of (plain query.now))) (Some refusal)))) }
     ensures never_falls { M.refusals patterns.old ≤ M.refusals patterns.new }
-    ensures kept { KeepsText (M.refused patterns.old) (M.refused patterns.new) result }
+    ensures kept { KeepsBy M.Patterns patterns.old patterns.new result }
 {
     match Prepared::new(alloc, query, patterns) {
         Ok(prepared) => Ok(prepared),
@@ -87,10 +87,10 @@ pub fn prepare_queries<M: Patterns>(
 ) -> Result<Vec<Prepared>, ChangeFault>
     ensures same { IfOk result (λ made. made.items ≡ plains queries.now) }
     ensures read { OnOk result (IsPick None (conditions_behind 0 (map Ok (plains queries.now))) None) }
-    ensures fault { IfErr result (FaultIs (λ refusal. Told (M.refusals patterns.old) (M.refusals patterns.new) (M.refused patterns.new) (λ large. IsPick large (conditions_behind 0 (map Ok (plains queries.now))) (Some refusal)))) }
+    ensures fault { IfErr result (FaultIs (λ refusal. ToldBy M.Patterns patterns.old patterns.new (λ large. IsPick large (conditions_behind 0 (map Ok (plains queries.now))) (Some refusal)))) }
     ensures never_falls { M.refusals patterns.old ≤ M.refusals patterns.new }
     // Which text was refused for its size changes only where such a pattern is told.
-    ensures kept { KeepsText (M.refused patterns.old) (M.refused patterns.new) result }
+    ensures kept { KeepsBy M.Patterns patterns.old patterns.new result }
 {
     let mut made = Vec::new(alloc);
     for i in 0..queries.len() {
@@ -107,10 +107,10 @@ pub fn prepared<M: Patterns>(
 ) -> Result<Prepared, ChangeFault>
     ensures same { IfOk result (λ made. query_of text.now ≡ Ok made) }
     ensures good { OnOk result (AreBuilt (text.now ∷ [])) }
-    ensures fault { IfErr result (FaultIs (λ refusal. Told (M.refusals patterns.old) (M.refusals patterns.new) (M.refused patterns.new) (λ large. QueriesRefuse large (text.now ∷ []) refusal))) }
+    ensures fault { IfErr result (FaultIs (λ refusal. ToldBy M.Patterns patterns.old patterns.new (λ large. QueriesRefuse large (text.now ∷ []) refusal))) }
     ensures never_falls { M.refusals patterns.old ≤ M.refusals patterns.new }
     // Which text was refused for its size changes only where such a pattern is told.
-    ensures kept { KeepsText (M.refused patterns.old) (M.refused patterns.new) result }
+    ensures kept { KeepsBy M.Patterns patterns.old patterns.new result }
 {
     let query = read(alloc, text, 1)?;
     built(alloc, &query, 1, patterns)
@@ -126,10 +126,10 @@ pub fn prepared_all<M: Patterns>(
 ) -> Result<Vec<Prepared>, ChangeFault>
     ensures same { IfOk result (λ made. map query_of texts.now ≡ map Ok made.items) }
     ensures good { OnOk result (AreBuilt texts.now) }
-    ensures fault { IfErr result (FaultIs (λ refusal. Told (M.refusals patterns.old) (M.refusals patterns.new) (M.refused patterns.new) (λ large. QueriesRefuse large texts.now refusal))) }
+    ensures fault { IfErr result (FaultIs (λ refusal. ToldBy M.Patterns patterns.old patterns.new (λ large. QueriesRefuse large texts.now refusal))) }
     ensures never_falls { M.refusals patterns.old ≤ M.refusals patterns.new }
     // Which text was refused for its size changes only where such a pattern is told.
-    ensures kept { KeepsText (M.refused patterns.old) (M.refused patterns.new) result }
+    ensures kept { KeepsBy M.Patterns patterns.old patterns.new result }
 {
     let queries = read_queries(alloc, texts)?;
     prepare_queries(alloc, &queries, patterns)
