@@ -1,9 +1,8 @@
 //! Calls of digest_set.
 
-use crate::answers::{Answer, reply};
-use digest_set::{Digests, Digits, Hashing, Said, What, digest_of_hex, digests_of, mismatch};
+use digest_set::{Hashing, Said, digest_of_hex, digests_of, mismatch};
+use row_answers::{put_digests, put_hexadecimal, reply};
 use row_table::{Desk, Stop, first_word, number_of, put, put_at};
-use std::alloc::AllocError;
 
 pub fn play(desk: &Desk, out: &mut String, call: &str, rest: &str) -> Result<(), Stop> {
     match call {
@@ -13,18 +12,6 @@ pub fn play(desk: &Desk, out: &mut String, call: &str, rest: &str) -> Result<(),
         "differs" => differs(desk, out, rest),
         _ => Err(Stop::NoCall),
     }
-}
-
-fn put_hexadecimal(out: &mut String, bytes: &[u8]) -> Result<(), AllocError> {
-    let digits = Digits::hexadecimal(*out.allocator(), bytes)?;
-    put(out, &[" ", digits.as_str()])
-}
-
-fn put_digests(out: &mut String, found: &Digests) -> Result<(), AllocError> {
-    put_at(out, "", found.size)?;
-    put_hexadecimal(out, &found.md5)?;
-    put_hexadecimal(out, &found.sha1)?;
-    put_hexadecimal(out, &found.sha256)
 }
 
 fn of(desk: &Desk, out: &mut String, rest: &str) -> Result<(), Stop> {
@@ -65,33 +52,6 @@ fn read(desk: &Desk, out: &mut String, rest: &str) -> Result<(), Stop> {
         "20" => put_found(out, digest_of_hex::<20>(digits.as_str())),
         "32" => put_found(out, digest_of_hex::<32>(digits.as_str())),
         _ => Err(Stop::NoCall),
-    }
-}
-
-/// The name of what differs.
-fn what_text(what: What) -> &'static str {
-    match what {
-        What::Size => "size",
-        What::Sha256 => "sha256",
-        What::Sha1 => "sha1",
-        What::Md5 => "md5",
-    }
-}
-
-/// Puts what differs, as said and as found.
-pub fn put_difference<'a>(
-    out: &mut String,
-    what: What,
-    said: &'a Digits,
-    found: &'a Digits,
-) -> Result<(), AllocError> {
-    put(out, &[what_text(what), " "])?;
-    put(out, &[said.as_str(), " ", found.as_str()])
-}
-
-impl Answer for (What, Digits, Digits) {
-    fn put(&self, out: &mut String) -> Result<(), AllocError> {
-        put_difference(out, self.0, &self.1, &self.2)
     }
 }
 

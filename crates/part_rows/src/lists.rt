@@ -1,9 +1,9 @@
 //! Calls of package_list.
 
-use crate::answers::{Answer, reply};
-use crate::packages::{package_of, put_triple};
+use crate::packages::package_of;
 use package_core::Package;
 use package_list::{ListFault, PackageList};
+use row_answers::{put_last, reply};
 use row_table::{Desk, Stop, first_word, number_of, put, put_at, yes_or_no};
 use std::alloc::{AllocError, Global};
 
@@ -15,39 +15,6 @@ pub fn play(desk: &mut Desk, out: &mut String, call: &str, rest: &str) -> Result
         "equal" => equal(desk, out, rest),
         "remove" => remove(desk, out, rest),
         _ => Err(Stop::NoCall),
-    }
-}
-
-/// Each member with the size of its file.
-fn put_members(out: &mut String, list: &PackageList) -> Result<(), AllocError> {
-    for member in list.as_slice() {
-        let of = member.package();
-        put(out, &[" "])?;
-        put_triple(out, of)?;
-        put_at(out, "/", of.said.size)?;
-    }
-    Ok(())
-}
-
-impl Answer for ListFault {
-    fn put(&self, out: &mut String) -> Result<(), AllocError> {
-        match self {
-            ListFault::Conflict(triple) => put(out, &["conflict ", triple.as_str()]),
-            ListFault::Full => out.push_str("full"),
-            ListFault::OutOfMemory => out.push_str("out of memory"),
-        }
-    }
-}
-
-/// The number of the last list, and its members.
-fn put_last(out: &mut String, lists: &[PackageList]) -> Result<(), AllocError> {
-    match lists.split_last() {
-        Some((list, earlier)) => {
-            put_at(out, "list ", earlier.len() as u64)?;
-            put(out, &[":"])?;
-            put_members(out, list)
-        }
-        None => Ok(()),
     }
 }
 

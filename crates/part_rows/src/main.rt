@@ -1,8 +1,6 @@
 //! `part_rows`, a test program: a table of calls of single crates on standard input, their answers on standard output.
 #![tactic(auto)]
 
-mod answers;
-mod commands;
 mod digests;
 mod indexes;
 mod lists;

@@ -1,12 +1,11 @@
 //! Calls of ap_text, and of the texts of control_stanza.
 
-use crate::answers::{Answer, reply};
 use ap_text::{
-    Name, SafePath, TextFault, is_name, is_package_name, is_safe_path, read_decimal, write_decimal,
+    Name, SafePath, is_name, is_package_name, is_safe_path, read_decimal, write_decimal,
 };
 use control_stanza::Text;
-use row_table::{Desk, Stop, first_word, number_of, put, put_at, put_bytes, put_order, yes_or_no};
-use std::alloc::AllocError;
+use row_answers::reply;
+use row_table::{Desk, Stop, first_word, number_of, put, put_bytes, put_order, yes_or_no};
 
 pub fn play_name(desk: &Desk, out: &mut String, call: &str, rest: &str) -> Result<(), Stop> {
     match call {
@@ -26,29 +25,6 @@ pub fn play_path(desk: &Desk, out: &mut String, call: &str, rest: &str) -> Resul
         "made" => made(desk, out, rest),
         "named" => named(desk, out, rest),
         _ => Err(Stop::NoCall),
-    }
-}
-
-impl Answer for TextFault {
-    fn put(&self, out: &mut String) -> Result<(), AllocError> {
-        match self {
-            TextFault::Empty => out.push_str("empty"),
-            TextFault::TooLong => out.push_str("too long"),
-            TextFault::BadByte(place) => put_at(out, "bad byte at ", *place),
-            TextFault::OutOfMemory => out.push_str("out of memory"),
-        }
-    }
-}
-
-impl Answer for Name {
-    fn put(&self, out: &mut String) -> Result<(), AllocError> {
-        out.push_str(self.as_str())
-    }
-}
-
-impl Answer for SafePath {
-    fn put(&self, out: &mut String) -> Result<(), AllocError> {
-        out.push_str(self.as_str())
     }
 }
 

@@ -1,13 +1,9 @@
 //! Calls of package_core.
 
-use crate::answers::{Answer, reply};
-use crate::digests::put_difference;
 use crate::stanzas::last_stanza;
-use ap_text::SafePath;
 use digest_set::{Digests, digests_of};
-use package_core::{
-    CompleteFault, Package, PackageFault, Required, compare_packages, has_same_triple,
-};
+use package_core::{Package, compare_packages, has_same_triple};
+use row_answers::{put_held, put_text, put_triple, reply};
 use row_table::{Desk, Stop, first_word, put, put_order, yes_or_no};
 use std::alloc::AllocError;
 
@@ -21,56 +17,6 @@ pub fn play(desk: &mut Desk, out: &mut String, call: &str, rest: &str) -> Result
         "stored" => stored(desk, out, rest),
         _ => Err(Stop::NoCall),
     }
-}
-
-fn required_text(field: Required) -> &'static str {
-    match field {
-        Required::NameField => "missing Package",
-        Required::VersionField => "missing Version",
-        Required::ArchitectureField => "missing Architecture",
-        Required::FilenameField => "missing Filename",
-        Required::SizeField => "missing Size",
-        Required::Sha256Field => "missing SHA256",
-    }
-}
-
-fn fault_text(fault: PackageFault) -> &'static str {
-    match fault {
-        PackageFault::Missing(field) => required_text(field),
-        PackageFault::BadName => "bad name",
-        PackageFault::BadVersion => "bad version",
-        PackageFault::BadArchitecture => "bad architecture",
-        PackageFault::BadSource => "bad source",
-        PackageFault::BadPath => "bad path",
-        PackageFault::BadNumber => "bad number",
-        PackageFault::BadDigest => "bad digest",
-        PackageFault::OutOfMemory => "out of memory",
-    }
-}
-
-impl Answer for PackageFault {
-    fn put(&self, out: &mut String) -> Result<(), AllocError> {
-        out.push_str(fault_text(*self))
-    }
-}
-
-/// `name_version_arch`, the path, the file's name, and the source.
-impl Answer for (Package, SafePath) {
-    fn put(&self, out: &mut String) -> Result<(), AllocError> {
-        put_triple(out, &self.0)?;
-        let (source, version) = self.0.source();
-        put(
-            out,
-            &[" at ", self.1.as_str(), ", file ", self.0.file.as_str()],
-        )?;
-        put(out, &[", source ", source, " ", version])
-    }
-}
-
-/// `name_version_arch`.
-pub fn put_triple(out: &mut String, package: &Package) -> Result<(), AllocError> {
-    let triple = package.triple(*out.allocator())?;
-    out.push_str(triple.as_str())
 }
 
 fn read(desk: &Desk, out: &mut String, rest: &str) -> Result<(), Stop> {
@@ -93,15 +39,6 @@ fn hold(desk: &mut Desk, out: &mut String, rest: &str) -> Result<(), Stop> {
     Ok(put_held(out, &desk.packages)?)
 }
 
-/// The package that is held last.
-fn put_held(out: &mut String, packages: &[Package]) -> Result<(), AllocError> {
-    put(out, &["held "])?;
-    match packages.last() {
-        Some(package) => put_triple(out, package),
-        None => Ok(()),
-    }
-}
-
 /// Whether the base's package has the name, version and architecture of another one, and their order.
 fn beside(desk: &Desk, out: &mut String, rest: &str) -> Result<(), Stop> {
     let own = package_of(desk, "~")?;
@@ -121,20 +58,6 @@ fn complete(desk: &Desk, out: &mut String, rest: &str) -> Result<(), Stop> {
     let found = digests_of(desk.word(body)?.as_bytes());
     let mut package = package_of(desk, rest)?;
     put_completed(out, &mut package, &found)
-}
-
-impl Answer for CompleteFault {
-    fn put(&self, out: &mut String) -> Result<(), AllocError> {
-        match self {
-            CompleteFault::Differs(what, said, found) => put_difference(out, *what, said, found),
-            CompleteFault::OutOfMemory => out.push_str("out of memory"),
-        }
-    }
-}
-
-fn put_text(out: &mut String, package: &Package) -> Result<(), AllocError> {
-    let text = package.text(*out.allocator())?;
-    out.push_str(text.as_str())
 }
 
 /// The text of a package once it is completed by what was found.

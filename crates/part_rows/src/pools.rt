@@ -1,12 +1,11 @@
 //! Calls of hash_pool over a store in memory.
 ghost use Rattle.std.specs.Prelude.{None};
 
-use crate::answers::{Answer, reply};
-use crate::digests::put_difference;
 use ap_host::{Bytes, Inbox, InboxErr, MemHost};
 use ap_text::SafePath;
 use digest_set::{Said, digests_of};
-use hash_pool::{PoolFault, get, has, length, pool_path, take};
+use hash_pool::{get, has, length, pool_path, take};
+use row_answers::reply;
 use row_table::{Desk, Stop, number_of, put, put_at, yes_or_no};
 use stage_file::Stage;
 use std::alloc::AllocError;
@@ -85,16 +84,6 @@ impl Inbox for Hollow {
 
     fn read_at(&mut self, _path: &SafePath, _at: u64, _out: &mut [u8]) -> Result<usize, InboxErr> {
         Ok(0)
-    }
-}
-
-/// What was said of a file and found otherwise.
-impl Answer for PoolFault {
-    fn put(&self, out: &mut String) -> Result<(), AllocError> {
-        match self {
-            PoolFault::Mismatch(what, said, found) => put_difference(out, *what, said, found),
-            _ => Ok(()),
-        }
     }
 }
 

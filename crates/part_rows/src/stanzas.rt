@@ -1,8 +1,8 @@
 //! Calls of control_stanza.
 
-use crate::answers::{Answer, reply};
-use control_stanza::{Stanza, StanzaFault, StanzaKind, read_stanzas, read_stored, write_stanza};
-use row_table::{Desk, Stop, first_word, put, put_at, put_bytes};
+use control_stanza::{Stanza, StanzaFault, read_stanzas, read_stored};
+use row_answers::{Answer, put_stanza, put_stanzas, reply};
+use row_table::{Desk, Stop, first_word, put, put_at};
 use std::alloc::AllocError;
 
 pub fn play(desk: &Desk, out: &mut String, call: &str, rest: &str) -> Result<(), Stop> {
@@ -16,54 +16,7 @@ pub fn play(desk: &Desk, out: &mut String, call: &str, rest: &str) -> Result<(),
     }
 }
 
-fn kind_text(kind: StanzaKind) -> &'static str {
-    match kind {
-        StanzaKind::CarriageReturn => "carriage return",
-        StanzaKind::NotUtf8 => "not UTF-8",
-        StanzaKind::StrayContinuation => "stray continuation",
-        StanzaKind::NoColon => "no colon",
-        StanzaKind::BadFieldName => "bad field name",
-        StanzaKind::RepeatedField => "repeated field",
-        StanzaKind::TooLong => "too long",
-    }
-}
-
-fn put_stanza(out: &mut String, stanza: &Stanza) -> Result<(), Stop> {
-    let mut text = Vec::new(*out.allocator());
-    write_stanza(&mut text, stanza)?;
-    put_bytes(out, &text)
-}
-
 type Read = Result<Vec<(u64, Stanza)>, StanzaFault>;
-
-/// How many stanzas there are.
-impl Answer for Vec<(u64, Stanza)> {
-    fn put(&self, out: &mut String) -> Result<(), AllocError> {
-        put_at(out, "stanzas ", self.len() as u64)
-    }
-}
-
-impl Answer for StanzaFault {
-    fn put(&self, out: &mut String) -> Result<(), AllocError> {
-        match self {
-            StanzaFault::At { line, kind } => {
-                put_at(out, "line ", *line)?;
-                put(out, &[": ", kind_text(*kind)])
-            }
-            StanzaFault::OutOfMemory => out.push_str("out of memory"),
-        }
-    }
-}
-
-/// Each stanza with its line and its text.
-fn put_stanzas(out: &mut String, found: &[(u64, Stanza)]) -> Result<(), Stop> {
-    for (line, stanza) in found {
-        put_at(out, "\nat ", *line)?;
-        put(out, &["\n"])?;
-        put_stanza(out, stanza)?;
-    }
-    Ok(())
-}
 
 /// How many stanzas there are, and each of them, or the fault.
 fn put_read(out: &mut String, read: Read) -> Result<(), Stop> {

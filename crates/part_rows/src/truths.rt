@@ -1,12 +1,12 @@
 //! Calls of query_eval and package_relations.
 
-use crate::answers::{Answer, reply};
 use ap_text::Name;
 use depends_field::{Alternative, read_depends};
 use package_relations::satisfies;
-use query_eval::{EvalFault, MemPatterns, Prepared, RegexPatterns, glob_matches};
+use query_eval::{MemPatterns, Prepared, RegexPatterns, glob_matches};
 use query_grammar::{Query, read_query};
-use row_table::{Desk, Stop, first_word, number_of, put_at, yes_or_no};
+use row_answers::reply;
+use row_table::{Desk, Stop, first_word, number_of, yes_or_no};
 use std::alloc::AllocError;
 
 pub fn play(desk: &Desk, out: &mut String, call: &str, rest: &str) -> Result<(), Stop> {
@@ -16,16 +16,6 @@ pub fn play(desk: &Desk, out: &mut String, call: &str, rest: &str) -> Result<(),
         "satisfied" => satisfied(desk, out, rest),
         "glob" => glob(desk, out, rest),
         _ => Err(Stop::NoCall),
-    }
-}
-
-impl Answer for EvalFault {
-    fn put(&self, out: &mut String) -> Result<(), AllocError> {
-        match self {
-            EvalFault::BadPattern(test) => put_at(out, "bad pattern ", *test),
-            EvalFault::PatternTooLarge(test) => put_at(out, "too large pattern ", *test),
-            EvalFault::OutOfMemory => out.push_str("out of memory"),
-        }
     }
 }
 

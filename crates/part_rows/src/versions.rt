@@ -1,9 +1,8 @@
 //! Calls of deb_version.
 
-use crate::answers::{Answer, reply};
 use deb_version::{Relation, Version, VersionFault, compare, meets};
-use row_table::{Desk, Stop, first_word, put, put_at, put_order, sign_of};
-use std::alloc::AllocError;
+use row_answers::{relation_text, reply};
+use row_table::{Desk, Stop, first_word, put, put_order, sign_of};
 
 pub fn play(desk: &Desk, out: &mut String, call: &str, rest: &str) -> Result<(), Stop> {
     match call {
@@ -12,23 +11,6 @@ pub fn play(desk: &Desk, out: &mut String, call: &str, rest: &str) -> Result<(),
         "meets" => met(desk, out, rest),
         "texts" => texts(desk, out, rest),
         _ => Err(Stop::NoCall),
-    }
-}
-
-impl Answer for VersionFault {
-    fn put(&self, out: &mut String) -> Result<(), AllocError> {
-        match self {
-            VersionFault::BadEpoch => out.push_str("bad epoch"),
-            VersionFault::Empty => out.push_str("empty"),
-            VersionFault::BadByte(place) => put_at(out, "bad byte at ", *place),
-            VersionFault::OutOfMemory => out.push_str("out of memory"),
-        }
-    }
-}
-
-impl Answer for Version {
-    fn put(&self, out: &mut String) -> Result<(), AllocError> {
-        put(out, &["version ", self.as_str()])
     }
 }
 
@@ -59,17 +41,6 @@ fn order(desk: &Desk, out: &mut String, rest: &str) -> Result<(), Stop> {
         (Err(_), Err(_)) => "both",
     };
     Ok(out.push_str(answer)?)
-}
-
-/// How a relation is written.
-pub fn relation_text(relation: Relation) -> &'static str {
-    match relation {
-        Relation::Earlier => "<<",
-        Relation::EarlierEqual => "<=",
-        Relation::Equal => "=",
-        Relation::LaterEqual => ">=",
-        Relation::Later => ">>",
-    }
 }
 
 const RELATIONS: [Relation; 5] = [

@@ -1,8 +1,9 @@
 //! Commands as they were read.
 
-use command_words::{Command, Origin};
+use crate::answers::Answer;
+use command_words::{Command, Origin, WordFault};
 use control_stanza::Text;
-use row_table::put;
+use row_table::{put, put_at};
 use std::alloc::AllocError;
 
 /// A verb, and its arguments.
@@ -46,7 +47,7 @@ fn put_settings(
 }
 
 /// A command that some whole call makes today, or another one that has an example.
-pub fn put_command(out: &mut String, command: &Command) -> Result<(), AllocError> {
+fn put_command(out: &mut String, command: &Command) -> Result<(), AllocError> {
     match command {
         Command::RepoCreate {
             name,
@@ -103,5 +104,25 @@ fn put_other(out: &mut String, command: &Command) -> Result<(), AllocError> {
             put_flag(out, " filter=", filter)
         }
         _ => put_verb(out, "another command", &[]),
+    }
+}
+
+/// Each command in a line.
+impl Answer for Vec<Command> {
+    fn put(&self, out: &mut String) -> Result<(), AllocError> {
+        for command in self.iter() {
+            put_command(out, command)?;
+            put(out, &["\n"])?;
+        }
+        Ok(())
+    }
+}
+
+impl Answer for WordFault {
+    fn put(&self, out: &mut String) -> Result<(), AllocError> {
+        match self {
+            WordFault::At { place } => put_at(out, "at ", *place),
+            WordFault::OutOfMemory => out.push_str("out of memory"),
+        }
     }
 }

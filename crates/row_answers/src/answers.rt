@@ -1,4 +1,4 @@
-//! What is printed of what the calls answer.
+//! Something that is printed.
 
 use row_table::Stop;
 use std::alloc::AllocError;
