@@ -4,6 +4,6 @@ pub mod Beside
 pub mod Removal
 pub mod Keys
 mod Triples
-mod Gathers
+pub mod Gathers
 mod Passed
 pub mod Pushes

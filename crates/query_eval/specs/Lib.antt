@@ -3,3 +3,4 @@ pub mod Builders
 pub mod Truth
 pub mod Conditions
 pub mod Preparing
+pub mod Several

@@ -10,9 +10,11 @@ mod node;
 mod patterns;
 mod prepare;
 mod prepared;
+mod several;
 mod truth;
 
 pub use fault::EvalFault;
 pub use patterns::{MemPatterns, PatternErr, Patterns, RegexPatterns};
 pub use prepared::Prepared;
+pub use several::is_any_true;
 pub use shell_pattern::{glob_matches, globs_cut_values};

@@ -5,6 +5,7 @@ use Rattle.package_core.specs.Card.{Card}
 use Rattle.query_tree.specs.Tree.{Tree}
 use Rattle.query_grammar.specs.Said.{query_of}
 use Rattle.query_eval.specs.Truth.{matches}
+pub use Rattle.query_eval.specs.Several.{some_true}
 
 -- the packages of which a query is true, in the order of the list
 abbrev pub found_by : List Card → Result Tree ℕ → List Card
@@ -19,7 +20,3 @@ is_true_of (Err place) p = false
 -- the packages of which some of the queries of a command is true, in the order of the list
 abbrev pub chosen : List Card → List (List ℕ) → List Card
 chosen list queries = filter (λ p. list_any (λ text. is_true_of (query_of text) p) queries) list
-
--- some of these queries is true of the package
-abbrev pub some_true : List Tree → Card → Bool
-some_true trees p = list_any (λ t. matches t p) trees

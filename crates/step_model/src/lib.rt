@@ -8,7 +8,6 @@ mod reading;
 
 pub use laws::cases_are_stepped;
 pub use names::{folder_of, name_of};
-pub use queries::{
-    chosen_in, found_in, prepare_queries, prepared, prepared_all, read_queries, without_of,
-};
+pub use package_list::without_of;
+pub use queries::{chosen_in, found_in, prepare_queries, prepared, prepared_all, read_queries};
 pub use reading::Reading;

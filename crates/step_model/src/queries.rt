@@ -1,21 +1,19 @@
 //! The queries of a command: read, prepared, and asked of packages.
 ghost use Rattle.std.specs.Prelude.{◌≡◌, ◌≤◌, ◌∷◌, ℕ, List, [], map, IfOk, IfErr, OnOk, None, Some, Ok};
 ghost use Rattle.std.specs.List.{filter};
-ghost use Rattle.package_list.specs.Lists.{without};
 ghost use Rattle.query_tree.specs.Tree.{plain, plains};
 ghost use Rattle.query_grammar.specs.Said.{query_of};
 ghost use Rattle.query_eval.specs.Conditions.{patterns_of};
 ghost use Rattle.query_eval.specs.Truth.{matches};
 ghost use Rattle.step_model.specs.Answers.{AreBuilt, FaultIs, IsFirst, KeepsBy, QueriesRefuse, ToldBy};
 ghost use Rattle.step_model.specs.Case.{bad_query, bad_queries, conditions_behind, numbered};
-ghost use Rattle.step_model.specs.Queries.{chosen, some_true};
+ghost use Rattle.step_model.specs.Queries.{chosen};
 ghost use Rattle.step_model.specs.Refuses.{IsPick};
 
 use control_stanza::Text;
 use machine_state::{ChangeFault, Refusal};
-use package_core::Package;
 use package_list::PackageList;
-use query_eval::{EvalFault, Patterns, Prepared};
+use query_eval::{EvalFault, Patterns, Prepared, is_any_true};
 use query_grammar::{Query, QueryFault, read_query};
 use std::alloc::{AllocError, Global};
 
@@ -153,18 +151,6 @@ pub fn found_in(
     Ok(PackageList::from_ascending(found))
 }
 
-/// Whether some of the queries is true of the package. Fails only for want of memory.
-fn is_any_true(alloc: Global, asked: &[Prepared], candidate: &Package) -> Result<bool, AllocError>
-    ensures { IfOk result (λ b. b ≡ some_true asked.now candidate.now) }
-{
-    for query in asked {
-        if query.matches(alloc, candidate)? {
-            return Ok(true);
-        }
-    }
-    Ok(false)
-}
-
 /// The members of which some query of a command is true, in the order of the list. Fails only for want of memory.
 pub fn chosen_in(
     alloc: Global,
@@ -181,22 +167,4 @@ pub fn chosen_in(
         }
     }
     Ok(PackageList::from_ascending(found))
-}
-
-/// The members that the other list hasn't, in their order, by a search by halves for each. Fails only for want of memory.
-pub fn without_of(
-    alloc: Global,
-    list: &PackageList,
-    gone: &PackageList,
-) -> Result<PackageList, AllocError>
-    ensures { IfOk result (λ left. left ≡ without list.now gone.now) }
-{
-    list.members_ascend();
-    let mut left = Vec::new(alloc);
-    for candidate in list.as_slice() {
-        if !gone.has(candidate.package()) {
-            left.push(candidate.clone()?)?;
-        }
-    }
-    Ok(PackageList::from_ascending(left))
 }

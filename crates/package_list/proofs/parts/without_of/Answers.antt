@@ -7,7 +7,7 @@ use Rattle.package_core.specs.Order.{package_cmp}
 use Rattle.package_list.specs.Sorted.{IsAscending}
 use Rattle.package_list.specs.Lists.{has_member, without}
 use Rattle.package_list.proofs.Unions.{filter_ascending}
-use Rattle.step_model.proofs.queries.without_of.Goals as goal
+use Rattle.package_list.proofs.parts.without_of.Goals as goal
 
 pub from_ascending-requires : goal.from_ascending-requires
 from_ascending-requires c =
