@@ -77,7 +77,7 @@ impl PackageList {
 
     /// The packages joined in the order in which they stand; of equal ones the first stays. The first that can't join those
     /// before it decides the fault: `Conflict` where none of those is its equal and one of them has its triple; else `Full`
-    /// where it would be the 200,001st member. It takes n log n comparisons, and moves each package once.
+    /// where it would be the 200,001st member. It takes n log n comparisons, and copies no package.
     pub fn from_packages(alloc: Global, packages: Vec<Package>) -> Result<PackageList, ListFault>
         ensures { Answers result (join_answer packages.items) }
     {
