@@ -11,7 +11,7 @@ use Rattle.reply_text.specs.Replies as replies
 use Rattle.step_model.specs.declared.reading.Reading.TheVariants as readings
 use Rattle.step_model.specs.Lawful.{CommandLaw, IsLawful}
 use Rattle.step_model.specs.Refuses.{IsReadable, reading}
-use Rattle.local_repo.specs.Cases as repos
+use Rattle.repo_packages.specs.PackageCases as repos
 use Rattle.local_repo.specs.Cases.{repo_case}
 use Rattle.machine_step.specs.Causes.{IsUnbuilt}
 use Rattle.machine_step.specs.Step.{Given, MayArrive, case_of, other_case, read_for}

@@ -13,7 +13,7 @@ use Rattle.step_model.specs.declared.reading.Reading.{Reading}
 use Rattle.step_model.specs.declared.reading.Reading.TheVariants as readings
 use Rattle.step_model.specs.Answers.{KeepsBut}
 use Rattle.step_model.specs.Case.{Case, unbuilt}
-use Rattle.local_repo.specs.Cases as repos
+use Rattle.repo_packages.specs.PackageCases as repos
 use Rattle.local_repo.specs.Cases.{repo_case}
 use Rattle.machine_step.specs.Answers.{KeepsUnlessTold}
 use Rattle.machine_step.specs.Family.{family}

@@ -14,7 +14,7 @@ use Rattle.step_model.specs.Case.{Case, changes, unbuilt, bad_queries, condition
 use Rattle.step_model.specs.Refuses.{reading}
 use Rattle.step_model.specs.Steps as steps
 use Rattle.step_model.specs.Queries.{found_by}
-use Rattle.local_repo.specs.Answers.{IsArrival}
+use Rattle.package_intake.specs.Answers.{IsArrival}
 use Rattle.local_repo.specs.Cases.{repo_case}
 use Rattle.reply_text.specs.Refusals.{refusal_line}
 use Rattle.reply_text.specs.Replies as replies
@@ -69,7 +69,11 @@ StepWith now large state command arrived outcome = steps.StepWith refusal_line l
 abbrev pub read_for : ℤ → StateView → PlainCommand → Reading
 read_for now state command = reading (case_of now state command)
 
+-- what may arrive for the command
+abbrev pub ArrivesFor : Given → Option (List ℕ) → StateView → PlainCommand → Arrived → Type 0
+ArrivesFor given large state command arrived = MayArrive given large state (read_for given.now state command) arrived
+
 -- The command may come to this in this state, in a call that is given this.
 abbrev pub Step : Given → Option (List ℕ) → StateView → PlainCommand → Outcome StateView Refusal → Type 0
 Step given large state command outcome =
-    (arrived : Arrived) × MayArrive given large state (read_for given.now state command) arrived × StepWith given.now large state command arrived outcome
+    (arrived : Arrived) × ArrivesFor given large state command arrived × StepWith given.now large state command arrived outcome

@@ -7,7 +7,7 @@ use Rattle.step_model.specs.Answers.{came, ComesTo, FaultIs, IsRefusedFor, Told}
 use Rattle.step_model.specs.Case.{Case}
 use Rattle.step_model.specs.Refuses.{reading}
 use Rattle.step_model.proofs.RefusalLemmas.{refuses_first}
-use Rattle.local_repo.specs.Cases as repos
+use Rattle.repo_packages.specs.PackageCases as repos
 use Rattle.machine_step.specs.Step.{case_of, giving, read_for}
 use Rattle.machine_step.proofs.FamilyLemmas.{is_repo, is_other, case_of_repo, case_of_other, case_of_rest, arrives_repo}
 use Rattle.step_model.proofs.FaultLemmas.{ok_told}
