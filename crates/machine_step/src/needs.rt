@@ -9,7 +9,6 @@ ghost use Rattle.machine_step.specs.Step.{case_of, read_for};
 use crate::family::{Family, family_of};
 use crate::packages::package_needs;
 use command_words::Command;
-use local_repo::needs;
 use machine_state::{ChangeFault, Refusal, State};
 use query_eval::Patterns;
 use std::alloc::Global;
@@ -32,7 +31,8 @@ pub fn need<M: Patterns>(
     ensures kept { KeepsBy M.Patterns patterns.old patterns.new result }
 {
     match family_of(command) {
-        Family::Repo => needs(alloc, state, command, patterns),
+        Family::Repo => local_repo::needs(alloc, state, command, patterns),
+        Family::Snapshot => snapshot_ops::needs(alloc, state, command, patterns),
         Family::Other => package_needs(alloc, command, patterns),
         _ => Err(ChangeFault::Refused(Refusal::NotBuilt)),
     }

@@ -11,7 +11,6 @@ use crate::family::{Family, family_of};
 use crate::outcome::Outcome;
 use crate::packages::package_change;
 use command_words::Command;
-use local_repo::change;
 use machine_state::{Arrived, Change, ChangeFault, Refusal, State};
 use query_eval::Patterns;
 use std::alloc::{AllocError, Global};
@@ -31,7 +30,8 @@ fn change_of<M: Patterns>(
     ensures kept { KeepsBy M.Patterns patterns.old patterns.new result }
 {
     match family_of(command) {
-        Family::Repo => change(alloc, state, command, arrived, patterns),
+        Family::Repo => local_repo::change(alloc, state, command, arrived, patterns),
+        Family::Snapshot => snapshot_ops::change(alloc, state, command, patterns),
         Family::Other => package_change(alloc, state, command, patterns),
         _ => Err(ChangeFault::Refused(Refusal::NotBuilt)),
     }
