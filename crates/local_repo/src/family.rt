@@ -1,5 +1,5 @@
 //! The commands of local repositories, by their verbs.
-ghost use Rattle.std.specs.Prelude.{◌≡◌, ◌≤◌, IfOk, IfErr, None};
+ghost use Rattle.std.specs.Prelude.{◌≡◌, ◌≤◌, IfOk, IfErr, None, Option};
 ghost use Rattle.ap_host.specs.Disk.{Files};
 ghost use Rattle.command_table.specs.Plain.{RepoCommand, plain, of_repo};
 ghost use Rattle.machine_state.specs.State.{Valid};
