@@ -1,0 +1,4 @@
+mod Members
+mod PlaceLemmas
+mod SeedOrder
+mod Whole

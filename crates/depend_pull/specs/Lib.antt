@@ -1,0 +1,4 @@
+pub mod Seeds
+pub mod SeedOrder
+pub mod Places
+pub mod Pull

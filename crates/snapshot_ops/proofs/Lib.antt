@@ -1,0 +1,9 @@
+pub mod CaseLemmas
+pub mod NewLemmas
+pub mod NameLemmas
+pub mod ListLemmas
+pub mod MergeLemmas
+pub mod JoinLemmas
+pub mod StateLemmas
+pub mod LawLemmas
+pub mod LawfulLemmas

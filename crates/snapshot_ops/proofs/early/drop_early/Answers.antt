@@ -1,0 +1,27 @@
+use Rattle.std.proofs.Common.{◌≡◌, ℕ, List, None, subst}
+use Rattle.machine_state.specs.declared.limit.Kind.TheVariants as kinds
+use Rattle.machine_state.specs.Sources.{in_use}
+use Rattle.step_model.specs.Names.{bad_name}
+use Rattle.step_model.proofs.FaultLemmas.{at_exit, first_decides, second_decides}
+use Rattle.snapshot_ops.specs.Cases.{unknown}
+use Rattle.snapshot_ops.proofs.CaseLemmas.{unknown_along, used_along}
+use Rattle.snapshot_ops.proofs.early.drop_early.Goals as goal
+
+pub returns-in_err-there-clause-fault : goal.returns-in_err-there-clause-fault
+returns-in_err-there-clause-fault c = λ v.
+    let fault = c.in_err-there.field-0.0 in
+    let name = c.args.text.now in
+    let state = c.args.state.now in
+    at_exit c.from_residual-in_err-there.result fault _ c.from_residual-in_err-there.ensures.1
+    (second_decides (bad_name name) _ fault c.in_ok-name.ensures.good
+    (first_decides (unknown state.snapshots name) (in_use kinds.Snapshot name state.publications) fault (unknown_along state.snapshots _ _ fault c.in_ok-name.ensures.same (c.in_err-there.ensures.fault v))))
+
+pub returns-in_err-unused-clause-fault : goal.returns-in_err-unused-clause-fault
+returns-in_err-unused-clause-fault c = λ v.
+    let fault = c.in_err-unused.field-0.0 in
+    let name = c.args.text.now in
+    let state = c.args.state.now in
+    let there = subst (λ (n : List ℕ). unknown state.snapshots n ≡ None) c.in_ok-name.ensures.same (c.in_ok-there.ensures.good v) in
+    at_exit c.from_residual-in_err-unused.result fault _ c.from_residual-in_err-unused.ensures.1
+    (second_decides (bad_name name) _ fault c.in_ok-name.ensures.good
+    (second_decides (unknown state.snapshots name) (in_use kinds.Snapshot name state.publications) fault there (used_along state.publications _ _ fault c.in_ok-name.ensures.same c.in_err-unused.ensures.fault)))

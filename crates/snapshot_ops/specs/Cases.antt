@@ -1,0 +1,190 @@
+-- The commands of snapshots: what each is in a state.
+use Rattle.std.specs.Prelude.{ℕ, Bool, false, List, [], ◌∷◌, length, map, Option, Some, None, Result, Ok, Err, nat_le, unwrap_or, if◌then◌else◌}
+use Rattle.std.specs.Option.{is_some}
+use Rattle.ap_host.specs.Disk.{Files}
+use Rattle.package_core.specs.Card.{Card}
+use Rattle.command_table.specs.declared.command.Origin.TheVariants as origins
+use Rattle.command_table.specs.Plain.{SnapshotCommand, PlainFollow, follows, snapshot_create, snapshot_list, snapshot_show, snapshot_filter, snapshot_merge, snapshot_search, snapshot_rename, snapshot_drop}
+use Rattle.machine_state.specs.declared.limit.Kind.TheVariants as kinds
+use Rattle.machine_state.specs.declared.limit.Limit.TheVariants.{Snapshots}
+use Rattle.machine_state.specs.declared.refusal.Refusal.{Refusal}
+use Rattle.machine_state.specs.declared.refusal.Refusal.TheVariants.{Exists, Unknown, Limit}
+use Rattle.machine_state.specs.declared.arrived.Arrived.{Arrived}
+use Rattle.machine_state.specs.declared.repo.Repo.{Repo}
+use Rattle.machine_state.specs.declared.snapshot.Snapshot.{Snapshot}
+use Rattle.machine_state.specs.Ascending.{put}
+use Rattle.machine_state.specs.Limits.{limit_number}
+use Rattle.machine_state.specs.Named.{dropped, renamed}
+use Rattle.machine_state.specs.Sources.{in_use, source_renamed}
+use Rattle.machine_state.specs.State.{repo_of, snapshot_cmp, snapshot_name, snapshot_of}
+use Rattle.machine_state.specs.Values.{StateView}
+use Rattle.query_grammar.specs.Said.{query_of}
+use Rattle.reply_text.specs.Replies.{package_search}
+use Rattle.reply_text.specs.Snapshots as replies
+use Rattle.step_model.specs.declared.reading.Reading.{Reading}
+use Rattle.step_model.specs.Case.{Case, Came, changes, refuses, or_else, plain_case, asking_case, unbuilt}
+use Rattle.step_model.specs.Queries.{chosen, found_by}
+use Rattle.step_model.specs.Names.{bad_name}
+use Rattle.snapshot_ops.specs.Merges.{merge_of, way_of}
+use Rattle.snapshot_ops.specs.Replies as own
+
+-- ---- what is there
+
+-- a snapshot has the name already
+abbrev pub taken : List Snapshot → List ℕ → Option Refusal
+taken snapshots name = if is_some (snapshot_of name snapshots) then Some (Exists kinds.Snapshot name) else None
+
+-- no snapshot has the name
+abbrev pub unknown : List Snapshot → List ℕ → Option Refusal
+unknown snapshots name = if is_some (snapshot_of name snapshots) then None else Some (Unknown kinds.Snapshot name)
+
+-- no repository has the name
+abbrev pub unknown_repo : List Repo → List ℕ → Option Refusal
+unknown_repo repos name = if is_some (repo_of name repos) then None else Some (Unknown kinds.Repo name)
+
+-- the text is no name, or no snapshot has it
+abbrev pub bad_snapshot : StateView → List ℕ → Option Refusal
+bad_snapshot state name = or_else (bad_name name) (unknown state.snapshots name)
+
+-- the first of these texts that is no name
+abbrev pub bad_among : List (List ℕ) → Option Refusal
+bad_among [] = None
+bad_among (name ∷ names) = or_else (bad_name name) (bad_among names)
+
+-- the first of these names that no snapshot has
+abbrev pub unknown_among : List Snapshot → List (List ℕ) → Option Refusal
+unknown_among snapshots [] = None
+unknown_among snapshots (name ∷ names) = or_else (unknown snapshots name) (unknown_among snapshots names)
+
+abbrev pub list_in : Option Snapshot → List Card
+list_in None = []
+list_in (Some snapshot) = snapshot.list
+
+-- the list of the snapshot of that name
+abbrev pub list_of : StateView → List ℕ → List Card
+list_of state name = list_in (snapshot_of name state.snapshots)
+
+abbrev pub repo_list_in : Option Repo → List Card
+repo_list_in None = []
+repo_list_in (Some repo) = repo.list
+
+-- the list of the repository of that name
+abbrev pub repo_list_of : StateView → List ℕ → List Card
+repo_list_of state name = repo_list_in (repo_of name state.repos)
+
+-- ---- a new snapshot
+
+abbrev pub snapshot_from : List ℕ → List Card → Snapshot
+snapshot_from name list = record { name = name; list = list }
+
+-- the state with one snapshot more
+abbrev pub with_snapshot : StateView → Snapshot → StateView
+with_snapshot state snapshot = record state { snapshots = put snapshot_cmp snapshot state.snapshots }
+
+-- a snapshot more, of this name and this list, where there is room for it
+abbrev pub created : StateView → List ℕ → List Card → Came
+created state name list =
+    if nat_le (limit_number Snapshots) (length state.snapshots) then refuses (Limit Snapshots)
+    else changes (own.snapshot_created name (length list)) (with_snapshot state (snapshot_from name list))
+
+-- the same of what a merge makes, where it makes a list
+abbrev pub created_from : StateView → List ℕ → Result (List Card) Refusal → Came
+created_from state name (Ok list) = created state name list
+created_from state name (Err refusal) = refuses refusal
+
+-- an empty one
+abbrev pub bad_empty : StateView → List ℕ → Option Refusal
+bad_empty state name = or_else (bad_name name) (taken state.snapshots name)
+
+abbrev pub empty_case : StateView → List ℕ → Case
+empty_case state name = plain_case (bad_empty state name) (created state name [])
+
+-- one of what a repository has now
+abbrev pub bad_copy : StateView → List ℕ → List ℕ → Option Refusal
+bad_copy state name repo = or_else (bad_name name) (or_else (bad_name repo) (or_else (taken state.snapshots name) (unknown_repo state.repos repo)))
+
+abbrev pub copy_case : StateView → List ℕ → List ℕ → Case
+copy_case state name repo = plain_case (bad_copy state name repo) (created state name (repo_list_of state repo))
+
+-- one of what queries choose of another. What follows dependencies isn't built.
+abbrev pub bad_filter : StateView → List ℕ → List ℕ → Option Refusal
+bad_filter state source destination =
+    or_else (bad_name source) (or_else (bad_name destination) (or_else (taken state.snapshots destination) (unknown state.snapshots source)))
+
+abbrev pub without_following : Option Bool → PlainFollow → Case → Case
+without_following deps follow case = if follows deps follow then unbuilt else case
+
+abbrev pub filter_case : StateView → List ℕ → List ℕ → List (List ℕ) → Case
+filter_case state source destination queries = asking_case (bad_filter state source destination) queries (created state destination (chosen (list_of state source) queries))
+
+-- one of several, joined from left to right
+abbrev pub bad_merge : StateView → List ℕ → List (List ℕ) → Option Refusal
+bad_merge state destination sources =
+    or_else (bad_name destination) (or_else (bad_among sources) (or_else (taken state.snapshots destination) (unknown_among state.snapshots sources)))
+
+abbrev pub merge_case : StateView → Bool → Bool → List ℕ → List (List ℕ) → Case
+merge_case state latest no_remove destination sources =
+    plain_case (bad_merge state destination sources) (created_from state destination (merge_of (way_of latest no_remove) (map (list_of state) sources)))
+
+-- ---- what is shown
+
+abbrev pub shown : StateView → List ℕ → Bool → Option Snapshot → Came
+shown state name packages (Some snapshot) = changes (replies.snapshot_show snapshot packages) state
+shown state name packages None = refuses (Unknown kinds.Snapshot name)
+
+abbrev pub show_case : StateView → Bool → List ℕ → Case
+show_case state packages name = plain_case (bad_snapshot state name) (shown state name packages (snapshot_of name state.snapshots))
+
+-- what a query finds in a snapshot
+abbrev pub search_case : StateView → List ℕ → List ℕ → Case
+search_case state name query = asking_case (bad_snapshot state name) (query ∷ []) (changes (package_search (found_by (list_of state name) (query_of query))) state)
+
+-- ---- names
+
+-- the same snapshot under another name
+abbrev pub called : Snapshot → List ℕ → Snapshot
+called snapshot name = record snapshot { name = name }
+
+-- a snapshot has another name, in the sources of publications too
+abbrev pub snapshot_renamed_in : StateView → List ℕ → List ℕ → StateView
+snapshot_renamed_in state before after =
+    record state {
+      snapshots = renamed snapshot_name called before after state.snapshots;
+      publications = map (source_renamed kinds.Snapshot before after) state.publications;
+    }
+
+abbrev pub bad_rename : StateView → List ℕ → List ℕ → Option Refusal
+bad_rename state before after =
+    or_else (bad_name before) (or_else (bad_name after) (or_else (taken state.snapshots after) (unknown state.snapshots before)))
+
+abbrev pub rename_case : StateView → List ℕ → List ℕ → Case
+rename_case state before after = plain_case (bad_rename state before after) (changes (own.snapshot_renamed before after) (snapshot_renamed_in state before after))
+
+-- a snapshot that no publication uses is no more
+abbrev pub without_snapshot : StateView → List ℕ → StateView
+without_snapshot state name = record state { snapshots = dropped snapshot_name name state.snapshots }
+
+abbrev pub bad_drop : StateView → List ℕ → Option Refusal
+bad_drop state name = or_else (bad_name name) (or_else (unknown state.snapshots name) (in_use kinds.Snapshot name state.publications))
+
+abbrev pub drop_case : StateView → List ℕ → Case
+drop_case state name = plain_case (bad_drop state name) (changes (own.snapshot_dropped name) (without_snapshot state name))
+
+-- ---- all of them
+
+-- What each command of snapshots is in a state. What follows dependencies isn't built yet, nor what reads mirrors.
+unfoldable pub snapshot_case : StateView → SnapshotCommand → Case
+snapshot_case state (snapshot_create name origins.Empty) = empty_case state name
+snapshot_case state (snapshot_create name (origins.Repo repo)) = copy_case state name repo
+snapshot_case state snapshot_list = plain_case None (changes (replies.snapshot_list state.snapshots) state)
+snapshot_case state (snapshot_show packages name) = show_case state (unwrap_or packages false) name
+snapshot_case state (snapshot_filter deps follow source destination queries) = without_following deps follow (filter_case state source destination queries)
+snapshot_case state (snapshot_merge latest no_remove destination sources) = merge_case state (unwrap_or latest false) (unwrap_or no_remove false) destination sources
+snapshot_case state (snapshot_search deps follow name query) = without_following deps follow (search_case state name query)
+snapshot_case state (snapshot_rename before after) = rename_case state before after
+snapshot_case state (snapshot_drop name) = drop_case state name
+snapshot_case state command = unbuilt
+
+-- a command of snapshots reads nothing, and looks at nothing that arrives
+abbrev pub MayArrive : Option Files → StateView → Reading → Arrived → Type 0
+MayArrive inbox state reading arrived = Unit {0}

@@ -1,0 +1,4 @@
+pub mod Merges
+pub mod Replies
+pub mod Cases
+pub mod Answers

@@ -1,0 +1,125 @@
+//! What each command of snapshots is refused for by its names.
+ghost use Rattle.std.specs.Prelude.{◌≡◌, IfOk, IfErr, OnOk, None, Some};
+ghost use Rattle.machine_state.specs.State.{Valid, repo_of, snapshot_of};
+ghost use Rattle.step_model.specs.Answers.{IsFirst};
+ghost use Rattle.snapshot_ops.specs.Cases.{bad_copy, bad_drop, bad_empty, bad_filter, bad_merge, bad_rename, bad_snapshot};
+
+use crate::checks::{all_there, free, names_of, repo_there, there, unused};
+use ap_text::Name;
+use control_stanza::Text;
+use machine_state::{ChangeFault, Repo, Snapshot, State};
+use std::alloc::Global;
+use step_model::name_of;
+
+/// The name of a new snapshot that is empty.
+pub(crate) fn empty_early(alloc: Global, state: &State, text: &Text) -> Result<Name, ChangeFault>
+    ensures good { Valid state.now → OnOk result (bad_empty state.now text.now ≡ None) }
+    ensures fault { Valid state.now → IfErr result (IsFirst (bad_empty state.now text.now)) }
+    ensures name { IfOk result (λ name. name ≡ text.now) }
+{
+    let name = name_of(alloc, text)?;
+    free(alloc, state, &name)?;
+    Ok(name)
+}
+
+/// The name of a new snapshot, and the repository that it is made of: both are names before one is looked for.
+pub(crate) fn copy_early<'a>(
+    alloc: Global,
+    state: &'a State,
+    text: &Text,
+    repo: &Text,
+) -> Result<(Name, &'a Repo), ChangeFault>
+    ensures good { Valid state.now → OnOk result (bad_copy state.now text.now repo.now ≡ None) }
+    ensures fault { Valid state.now → IfErr result (IsFirst (bad_copy state.now text.now repo.now)) }
+    ensures name { IfOk result (λ made. made.0 ≡ text.now) }
+    ensures found { Valid state.now → IfOk result (λ made. repo_of repo.now state.now.repos ≡ Some made.1.now) }
+{
+    let name = name_of(alloc, text)?;
+    let of = name_of(alloc, repo)?;
+    free(alloc, state, &name)?;
+    let repo = repo_there(alloc, state, &of)?;
+    Ok((name, repo))
+}
+
+/// The snapshot that a text names.
+pub(crate) fn named_snapshot<'a>(
+    alloc: Global,
+    state: &'a State,
+    text: &Text,
+) -> Result<&'a Snapshot, ChangeFault>
+    ensures good { Valid state.now → OnOk result (bad_snapshot state.now text.now ≡ None) }
+    ensures fault { Valid state.now → IfErr result (IsFirst (bad_snapshot state.now text.now)) }
+    ensures found { Valid state.now → IfOk result (λ snapshot. snapshot_of text.now state.now.snapshots ≡ Some snapshot.now) }
+{
+    let name = name_of(alloc, text)?;
+    there(alloc, state, &name)
+}
+
+/// The snapshot that is filtered, and the name of the new one.
+pub(crate) fn filter_early<'a>(
+    alloc: Global,
+    state: &'a State,
+    source: &Text,
+    destination: &Text,
+) -> Result<(&'a Snapshot, Name), ChangeFault>
+    ensures good { Valid state.now → OnOk result (bad_filter state.now source.now destination.now ≡ None) }
+    ensures fault { Valid state.now → IfErr result (IsFirst (bad_filter state.now source.now destination.now)) }
+    ensures found { Valid state.now → IfOk result (λ pair. snapshot_of source.now state.now.snapshots ≡ Some pair.0.now) }
+    ensures name { IfOk result (λ pair. pair.1 ≡ destination.now) }
+{
+    let from = name_of(alloc, source)?;
+    let to = name_of(alloc, destination)?;
+    free(alloc, state, &to)?;
+    let snapshot = there(alloc, state, &from)?;
+    Ok((snapshot, to))
+}
+
+/// The name of a new snapshot, and those of the snapshots that it is merged of.
+pub(crate) fn merge_early(
+    alloc: Global,
+    state: &State,
+    destination: &Text,
+    sources: &[Text],
+) -> Result<(Name, Vec<Name>), ChangeFault>
+    ensures good { Valid state.now → OnOk result (bad_merge state.now destination.now sources.now ≡ None) }
+    ensures fault { Valid state.now → IfErr result (IsFirst (bad_merge state.now destination.now sources.now)) }
+    ensures name { IfOk result (λ names. names.0 ≡ destination.now) }
+    ensures sources { IfOk result (λ names. names.1.items ≡ sources.now) }
+{
+    let to = name_of(alloc, destination)?;
+    let from = names_of(alloc, sources)?;
+    free(alloc, state, &to)?;
+    all_there(alloc, state, &from)?;
+    Ok((to, from))
+}
+
+/// The name that a snapshot has, and the name that it is to have.
+pub(crate) fn rename_early(
+    alloc: Global,
+    state: &State,
+    from: &Text,
+    to: &Text,
+) -> Result<(Name, Name), ChangeFault>
+    ensures good { Valid state.now → OnOk result (bad_rename state.now from.now to.now ≡ None) }
+    ensures fault { Valid state.now → IfErr result (IsFirst (bad_rename state.now from.now to.now)) }
+    ensures before { IfOk result (λ names. names.0 ≡ from.now) }
+    ensures after { IfOk result (λ names. names.1 ≡ to.now) }
+{
+    let before = name_of(alloc, from)?;
+    let after = name_of(alloc, to)?;
+    free(alloc, state, &after)?;
+    there(alloc, state, &before)?;
+    Ok((before, after))
+}
+
+/// The name of the snapshot that is to be dropped.
+pub(crate) fn drop_early(alloc: Global, state: &State, text: &Text) -> Result<Name, ChangeFault>
+    ensures good { Valid state.now → OnOk result (bad_drop state.now text.now ≡ None) }
+    ensures fault { Valid state.now → IfErr result (IsFirst (bad_drop state.now text.now)) }
+    ensures name { IfOk result (λ name. name ≡ text.now) }
+{
+    let name = name_of(alloc, text)?;
+    there(alloc, state, &name)?;
+    unused(alloc, state, &name)?;
+    Ok(name)
+}
