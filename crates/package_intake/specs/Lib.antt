@@ -5,6 +5,3 @@ pub mod Catalogue
 pub mod Faults
 pub mod Additions
 pub mod Inside
-pub mod Arrival
-pub mod Fits
-pub mod Answers

@@ -1,0 +1,13 @@
+use Rattle.package_intake.proofs.EntryLemmas.{listed_packages}
+use Rattle.local_repo.proofs.LawLemmas.{added_same, arrives_fit}
+use Rattle.local_repo.proofs.TotalLemmas.{some_arrives}
+use Rattle.local_repo.proofs.laws.arrivals_fit.Goals as goal
+
+pub returns-clause-fits : goal.returns-clause-fits
+returns-clause-fits c = λ files state name folder list v h. arrives_fit listed_packages files state name folder list v h
+
+pub returns-clause-total : goal.returns-clause-total
+returns-clause-total c = λ files state name folder. some_arrives files state name folder
+
+pub returns-clause-same : goal.returns-clause-same
+returns-clause-same c = λ state name list v h. added_same state name list v h
