@@ -19,7 +19,7 @@ use Rattle.machine_state.specs.declared.arrived.UpdateFault.{UpdateFault}
 use Rattle.machine_state.specs.declared.arrived.UpdateFault.TheVariants as updates
 use Rattle.machine_state.specs.State.{Valid}
 use Rattle.machine_state.specs.Values.{StateView}
-use Rattle.local_repo.specs.Answers.{IsArrival, Comes, Adds, IfList}
+use Rattle.package_intake.specs.Answers.{IsArrival, Comes, Adds, IfList}
 use Rattle.package_intake.specs.Additions.{Fills}
 use Rattle.hash_pool.specs.Bodies.{HasBody, IsMet, DigestsApart}
 use Rattle.reply_text.specs.Refusals.{refusal_line}

@@ -1,15 +1,5 @@
-pub mod FitLemmas
-pub mod ArrivalLemmas
-pub mod AddLemmas
-pub mod TotalLemmas
-pub mod LawLemmas
-pub mod JoinLemmas
 pub mod CaseLemmas
 pub mod NameLemmas
 pub mod OwnLemmas
 pub mod NameLaws
-pub mod ListingLemmas
-pub mod QueryLaws
-pub mod PairLemmas
 pub mod LawfulLemmas
-pub mod ReadLemmas

@@ -26,9 +26,11 @@ use Rattle.step_model.specs.Lawful.{IfChanges, IfRefuses, IsFrom, IsLawful}
 use Rattle.step_model.proofs.StepLemmas.{from_known}
 use Rattle.local_repo.specs.Replies as own
 use Rattle.local_repo.specs.Settings.{bad_comment, bad_component, bad_distribution, bad_settings, bad_word, bare_repo, distribution_or, edited, if_written}
-use Rattle.local_repo.specs.Cases.{changed_in, created, repo_case, repo_renamed_in, taken, unknown}
-use Rattle.local_repo.proofs.CaseLemmas.{first_none, second_none}
-use Rattle.local_repo.proofs.OwnLemmas.{Own, OwnOr, created_some, line_some, own_else, own_name, own_settings, own_taken, own_unknown, own_used}
+use Rattle.local_repo.specs.Cases.{created, repo_case, repo_renamed_in, taken}
+use Rattle.local_repo.proofs.OwnLemmas.{created_some, own_settings, own_taken}
+use Rattle.repo_packages.specs.PackageCases.{changed_in, unknown}
+use Rattle.step_model.proofs.OwnLemmas.{first_none, second_none, Own, OwnOr, own_else, own_name, own_used}
+use Rattle.repo_packages.proofs.OwnLemmas.{line_some, own_unknown}
 
 -- a command that changes the state at once, and reads nothing
 changing : (state new : StateView) (May : Arrived → Type 0) (early : Option Refusal) (reply : List ℕ) → (Valid state → early ≡ None → Valid new) → reply ≢ [] → new.known ≡ state.known → (state.publications ≡ [] → new.publications ≡ []) → Own early → IsLawful state May (plain_case early (changes reply new))

@@ -20,8 +20,11 @@ use Rattle.step_model.specs.Answers.{came, ComesTo, IsNew}
 use Rattle.step_model.proofs.RefusalLemmas.{passes}
 use Rattle.local_repo.specs.Replies as own
 use Rattle.local_repo.specs.Settings.{edited, SameSettings}
-use Rattle.local_repo.specs.Cases.{called, changed_in, repo_case, repo_renamed_in, taken, unknown}
-use Rattle.local_repo.proofs.CaseLemmas.{first_none, is_free, is_there, second_none}
+use Rattle.local_repo.specs.Cases.{called, repo_case, repo_renamed_in, taken}
+use Rattle.local_repo.proofs.CaseLemmas.{is_free}
+use Rattle.repo_packages.specs.PackageCases.{changed_in, unknown}
+use Rattle.step_model.proofs.OwnLemmas.{first_none, second_none}
+use Rattle.repo_packages.proofs.CaseLemmas.{is_there}
 
 -- ---- other settings
 module _ (state : StateView) (comment distribution component : Option (List ℕ)) (repo made : Repo) (is : made ≡ edited comment distribution component repo) where

@@ -1,12 +1,6 @@
-pub mod Arrival
-pub mod Fits
-pub mod Answers
 pub mod Replies
 pub mod Settings
 pub mod Cases
-pub use Rattle.package_intake.specs.Index
-pub use Rattle.package_intake.specs.Steps
-pub use Rattle.package_intake.specs.Taking
-pub use Rattle.package_intake.specs.Catalogue
-pub use Rattle.package_intake.specs.Faults
-pub use Rattle.package_intake.specs.Additions
+pub mod Verbs
+pub use Rattle.repo_packages.specs.PackageReplies
+pub use Rattle.repo_packages.specs.PackageCases

@@ -1,13 +1,13 @@
-//! Whether a repository is there, and whether it is in use.
-ghost use Rattle.std.specs.Prelude.{◌≡◌, IfOk, IfErr, OnOk, None, Some};
+//! Whether a name is free, and whether a repository is in use.
+ghost use Rattle.std.specs.Prelude.{◌≡◌, IfErr, OnOk, None};
 ghost use Rattle.machine_state.specs.Sources.{in_use as use_of};
-ghost use Rattle.machine_state.specs.State.{Valid, repo_of};
+ghost use Rattle.machine_state.specs.State.{Valid};
 ghost use Rattle.machine_state.specs.declared.limit.Kind.TheVariants as kinds;
 ghost use Rattle.step_model.specs.Answers.{IsFirst};
-ghost use Rattle.local_repo.specs.Cases.{taken, unknown};
+ghost use Rattle.local_repo.specs.Cases.{taken};
 
 use ap_text::Name;
-use machine_state::{ChangeFault, Kind, Refusal, Repo, State, in_use};
+use machine_state::{ChangeFault, Kind, Refusal, State, in_use};
 use std::alloc::Global;
 
 /// No repository has the name yet. One that is taken is refused.
@@ -18,22 +18,6 @@ pub(crate) fn free(alloc: Global, state: &State, name: &Name) -> Result<(), Chan
     match state.repo(name) {
         None => Ok(()),
         Some(_) => Err(ChangeFault::Refused(Refusal::Exists(Kind::Repo, name.copy(alloc)?))),
-    }
-}
-
-/// The repository of this name. Where there is none it is unknown.
-pub(crate) fn there<'a>(
-    alloc: Global,
-    state: &'a State,
-    name: &Name,
-) -> Result<&'a Repo, ChangeFault>
-    ensures good { Valid state.now → OnOk result (unknown state.now.repos name.now ≡ None) }
-    ensures fault { Valid state.now → IfErr result (IsFirst (unknown state.now.repos name.now)) }
-    ensures found { Valid state.now → IfOk result (λ repo. repo_of name.now state.now.repos ≡ Some repo.now) }
-{
-    match state.repo(name) {
-        Some(repo) => Ok(repo),
-        None => Err(ChangeFault::Refused(Refusal::Unknown(Kind::Repo, name.copy(alloc)?))),
     }
 }
 

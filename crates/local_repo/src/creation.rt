@@ -1,12 +1,13 @@
 //! A new repository.
 ghost use Rattle.std.specs.Prelude.{◌≡◌, List, ℕ, Option, IfOk, IfErr, None, Some};
-ghost use Rattle.command_table.specs.Plain.{plain, of_repo, repo_create};
+ghost use Rattle.command_table.specs.Plain.{RepoCommand, plain, of_repo, repo_create};
 ghost use Rattle.machine_state.specs.Ascending.{put};
 ghost use Rattle.machine_state.specs.State.{Valid, repo_cmp};
 ghost use Rattle.machine_state.specs.declared.arrived.Arrived.{Arrived};
 ghost use Rattle.reply_text.specs.Replies.{repo_created as created_line};
-ghost use Rattle.step_model.specs.Answers.{came, ComesTo, FaultIs, IsMemory, IsNew, IsRefusedFor};
+ghost use Rattle.step_model.specs.Answers.{ChangesTo, FaultIs, IsMemory, IsNew, IsRefusedFor};
 ghost use Rattle.local_repo.specs.Cases.{repo_case};
+ghost use Rattle.local_repo.specs.Verbs.{IsCreate};
 ghost use Rattle.local_repo.specs.Settings.{bad_settings, bare_repo as bare, edited as edited_from};
 
 use crate::early::create_early;
@@ -77,7 +78,7 @@ fn create_with(
     component: &Option<Text>,
     name: &Text,
 ) -> Result<Change, ChangeFault>
-    ensures ok { (arrived : Arrived) → Valid state.now → IfOk result (λ change. ComesTo None (repo_case state.now (repo_create comment.now distribution.now component.now name.now)) arrived (came state.now change)) }
+    ensures ok { (arrived : Arrived) → Valid state.now → IfOk result (ChangesTo state.now (repo_case state.now (repo_create comment.now distribution.now component.now name.now)) arrived) }
     ensures fault { (arrived : Arrived) → Valid state.now → IfErr result (FaultIs (IsRefusedFor None (repo_case state.now (repo_create comment.now distribution.now component.now name.now)) arrived)) }
     ensures new { Valid state.now → IfOk result (λ change. IsNew state.now change.state) }
 {
@@ -96,8 +97,8 @@ pub fn create<M: Patterns>(
     command: &Command,
     _patterns: &mut M,
 ) -> Result<Change, ChangeFault>
-    ensures ok { (comment distribution component : Option (List ℕ)) (name : List ℕ) (arrived : Arrived) → plain command.now ≡ of_repo (repo_create comment distribution component name) → Valid state.now → IfOk result (λ change. ComesTo None (repo_case state.now (repo_create comment distribution component name)) arrived (came state.now change)) }
-    ensures fault { (comment distribution component : Option (List ℕ)) (name : List ℕ) (arrived : Arrived) → plain command.now ≡ of_repo (repo_create comment distribution component name) → Valid state.now → IfErr result (FaultIs (IsRefusedFor None (repo_case state.now (repo_create comment distribution component name)) arrived)) }
+    ensures ok { (c : RepoCommand) (arrived : Arrived) → plain command.now ≡ of_repo c → IsCreate c → Valid state.now → IfOk result (ChangesTo state.now (repo_case state.now c) arrived) }
+    ensures fault { (c : RepoCommand) (arrived : Arrived) → plain command.now ≡ of_repo c → IsCreate c → Valid state.now → IfErr result (FaultIs (IsRefusedFor None (repo_case state.now c) arrived)) }
     ensures new { Valid state.now → IfOk result (λ change. IsNew state.now change.state) }
     ensures untouched { _patterns.new ≡ _patterns.old }
 {

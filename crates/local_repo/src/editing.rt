@@ -1,11 +1,13 @@
 //! A repository with other settings.
 ghost use Rattle.std.specs.Prelude.{◌≡◌, List, ℕ, Option, IfOk, IfErr, None, Some};
-ghost use Rattle.command_table.specs.Plain.{plain, of_repo, repo_edit};
+ghost use Rattle.command_table.specs.Plain.{RepoCommand, plain, of_repo, repo_edit};
 ghost use Rattle.machine_state.specs.State.{Valid, repo_of};
 ghost use Rattle.machine_state.specs.declared.arrived.Arrived.{Arrived};
-ghost use Rattle.step_model.specs.Answers.{came, ComesTo, FaultIs, IsMemory, IsNew, IsRefusedFor};
+ghost use Rattle.step_model.specs.Answers.{came, ChangesTo, FaultIs, IsMemory, IsNew, IsRefusedFor};
 ghost use Rattle.step_model.specs.Case.{changes};
-ghost use Rattle.local_repo.specs.Cases.{changed_in, repo_case};
+ghost use Rattle.repo_packages.specs.PackageCases.{changed_in};
+ghost use Rattle.local_repo.specs.Cases.{repo_case};
+ghost use Rattle.local_repo.specs.Verbs.{IsEdit};
 ghost use Rattle.local_repo.specs.Replies.{repo_edited as edited_line};
 ghost use Rattle.local_repo.specs.Settings.{edited as edited_from};
 
@@ -52,7 +54,7 @@ fn edit_with(
     component: &Option<Text>,
     name: &Text,
 ) -> Result<Change, ChangeFault>
-    ensures ok { (arrived : Arrived) → Valid state.now → IfOk result (λ change. ComesTo None (repo_case state.now (repo_edit comment.now distribution.now component.now name.now)) arrived (came state.now change)) }
+    ensures ok { (arrived : Arrived) → Valid state.now → IfOk result (ChangesTo state.now (repo_case state.now (repo_edit comment.now distribution.now component.now name.now)) arrived) }
     ensures fault { (arrived : Arrived) → Valid state.now → IfErr result (FaultIs (IsRefusedFor None (repo_case state.now (repo_edit comment.now distribution.now component.now name.now)) arrived)) }
     ensures new { Valid state.now → IfOk result (λ change. IsNew state.now change.state) }
 {
@@ -69,8 +71,8 @@ pub fn edit<M: Patterns>(
     command: &Command,
     _patterns: &mut M,
 ) -> Result<Change, ChangeFault>
-    ensures ok { (comment distribution component : Option (List ℕ)) (name : List ℕ) (arrived : Arrived) → plain command.now ≡ of_repo (repo_edit comment distribution component name) → Valid state.now → IfOk result (λ change. ComesTo None (repo_case state.now (repo_edit comment distribution component name)) arrived (came state.now change)) }
-    ensures fault { (comment distribution component : Option (List ℕ)) (name : List ℕ) (arrived : Arrived) → plain command.now ≡ of_repo (repo_edit comment distribution component name) → Valid state.now → IfErr result (FaultIs (IsRefusedFor None (repo_case state.now (repo_edit comment distribution component name)) arrived)) }
+    ensures ok { (c : RepoCommand) (arrived : Arrived) → plain command.now ≡ of_repo c → IsEdit c → Valid state.now → IfOk result (ChangesTo state.now (repo_case state.now c) arrived) }
+    ensures fault { (c : RepoCommand) (arrived : Arrived) → plain command.now ≡ of_repo c → IsEdit c → Valid state.now → IfErr result (FaultIs (IsRefusedFor None (repo_case state.now c) arrived)) }
     ensures new { Valid state.now → IfOk result (λ change. IsNew state.now change.state) }
     ensures untouched { _patterns.new ≡ _patterns.old }
 {

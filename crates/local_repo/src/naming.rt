@@ -1,12 +1,13 @@
 //! Repositories that have another name, or are no more.
 ghost use Rattle.std.specs.Prelude.{◌≡◌, List, ℕ, IfOk, IfErr, OnOk, None};
-ghost use Rattle.command_table.specs.Plain.{plain, of_repo, repo_rename, repo_drop};
+ghost use Rattle.command_table.specs.Plain.{RepoCommand, plain, of_repo, repo_rename, repo_drop};
 ghost use Rattle.machine_state.specs.Ascending.{IsAscending};
 ghost use Rattle.machine_state.specs.Named.{dropped, renamed};
 ghost use Rattle.machine_state.specs.State.{Valid, repo_cmp, repo_name};
 ghost use Rattle.machine_state.specs.declared.arrived.Arrived.{Arrived};
-ghost use Rattle.step_model.specs.Answers.{came, ComesTo, FaultIs, IsNew, IsRefusedFor};
+ghost use Rattle.step_model.specs.Answers.{ChangesTo, FaultIs, IsNew, IsRefusedFor};
 ghost use Rattle.local_repo.specs.Cases.{called, repo_case, repo_renamed_in};
+ghost use Rattle.local_repo.specs.Verbs.{IsRename, IsDrop};
 
 use crate::early::{drop_early, rename_early};
 use crate::replies::{repo_dropped, repo_renamed};
@@ -48,7 +49,7 @@ fn renamed_state(
 }
 
 fn rename_named(alloc: Global, state: &State, from: &Text, to: &Text) -> Result<Change, ChangeFault>
-    ensures ok { (arrived : Arrived) → Valid state.now → IfOk result (λ change. ComesTo None (repo_case state.now (repo_rename from.now to.now)) arrived (came state.now change)) }
+    ensures ok { (arrived : Arrived) → Valid state.now → IfOk result (ChangesTo state.now (repo_case state.now (repo_rename from.now to.now)) arrived) }
     ensures fault { (arrived : Arrived) → Valid state.now → IfErr result (FaultIs (IsRefusedFor None (repo_case state.now (repo_rename from.now to.now)) arrived)) }
     ensures new { Valid state.now → IfOk result (λ change. IsNew state.now change.state) }
 {
@@ -67,8 +68,8 @@ pub fn rename<M: Patterns>(
     command: &Command,
     _patterns: &mut M,
 ) -> Result<Change, ChangeFault>
-    ensures ok { (before after : List ℕ) (arrived : Arrived) → plain command.now ≡ of_repo (repo_rename before after) → Valid state.now → IfOk result (λ change. ComesTo None (repo_case state.now (repo_rename before after)) arrived (came state.now change)) }
-    ensures fault { (before after : List ℕ) (arrived : Arrived) → plain command.now ≡ of_repo (repo_rename before after) → Valid state.now → IfErr result (FaultIs (IsRefusedFor None (repo_case state.now (repo_rename before after)) arrived)) }
+    ensures ok { (c : RepoCommand) (arrived : Arrived) → plain command.now ≡ of_repo c → IsRename c → Valid state.now → IfOk result (ChangesTo state.now (repo_case state.now c) arrived) }
+    ensures fault { (c : RepoCommand) (arrived : Arrived) → plain command.now ≡ of_repo c → IsRename c → Valid state.now → IfErr result (FaultIs (IsRefusedFor None (repo_case state.now c) arrived)) }
     ensures new { Valid state.now → IfOk result (λ change. IsNew state.now change.state) }
     ensures untouched { _patterns.new ≡ _patterns.old }
 {
@@ -90,7 +91,7 @@ fn state_without(alloc: Global, state: &State, name: &Name) -> Result<State, All
 }
 
 fn drop_named(alloc: Global, state: &State, name: &Text) -> Result<Change, ChangeFault>
-    ensures ok { (arrived : Arrived) → Valid state.now → IfOk result (λ change. ComesTo None (repo_case state.now (repo_drop name.now)) arrived (came state.now change)) }
+    ensures ok { (arrived : Arrived) → Valid state.now → IfOk result (ChangesTo state.now (repo_case state.now (repo_drop name.now)) arrived) }
     ensures fault { (arrived : Arrived) → Valid state.now → IfErr result (FaultIs (IsRefusedFor None (repo_case state.now (repo_drop name.now)) arrived)) }
     ensures new { Valid state.now → IfOk result (λ change. IsNew state.now change.state) }
 {
@@ -109,8 +110,8 @@ pub fn drop<M: Patterns>(
     command: &Command,
     _patterns: &mut M,
 ) -> Result<Change, ChangeFault>
-    ensures ok { (name : List ℕ) (arrived : Arrived) → plain command.now ≡ of_repo (repo_drop name) → Valid state.now → IfOk result (λ change. ComesTo None (repo_case state.now (repo_drop name)) arrived (came state.now change)) }
-    ensures fault { (name : List ℕ) (arrived : Arrived) → plain command.now ≡ of_repo (repo_drop name) → Valid state.now → IfErr result (FaultIs (IsRefusedFor None (repo_case state.now (repo_drop name)) arrived)) }
+    ensures ok { (c : RepoCommand) (arrived : Arrived) → plain command.now ≡ of_repo c → IsDrop c → Valid state.now → IfOk result (ChangesTo state.now (repo_case state.now c) arrived) }
+    ensures fault { (c : RepoCommand) (arrived : Arrived) → plain command.now ≡ of_repo c → IsDrop c → Valid state.now → IfErr result (FaultIs (IsRefusedFor None (repo_case state.now c) arrived)) }
     ensures new { Valid state.now → IfOk result (λ change. IsNew state.now change.state) }
     ensures untouched { _patterns.new ≡ _patterns.old }
 {

@@ -1,22 +1,23 @@
 //! Repositories that are listed and shown.
 ghost use Rattle.std.specs.Prelude.{◌≡◌, List, ℕ, Bool, Option, IfOk, IfErr, None};
-ghost use Rattle.command_table.specs.Plain.{plain, of_repo, repo_list as listed, repo_show as show_of};
+ghost use Rattle.command_table.specs.Plain.{RepoCommand, plain, of_repo, repo_list as listed, repo_show as show_of};
 ghost use Rattle.machine_state.specs.State.{Valid};
 ghost use Rattle.machine_state.specs.declared.arrived.Arrived.{Arrived};
-ghost use Rattle.step_model.specs.Answers.{came, ComesTo, FaultIs, IsMemory, IsNew, IsRefusedFor};
+ghost use Rattle.step_model.specs.Answers.{ChangesTo, FaultIs, IsMemory, IsNew, IsRefusedFor};
 ghost use Rattle.local_repo.specs.Cases.{repo_case};
+ghost use Rattle.local_repo.specs.Verbs.{IsShow};
 
-use crate::early::named_repo;
 use command_table::Command;
 use control_stanza::Text;
 use machine_state::{Change, ChangeFault, Refusal, State};
 use query_eval::Patterns;
 use reply_text::{repo_list, repo_show};
+use repo_packages::named_repo;
 use std::alloc::Global;
 
 /// `repo list`: each repository with the count of its packages. It fails only for want of memory.
 pub fn list(alloc: Global, state: &State) -> Result<Change, ChangeFault>
-    ensures ok { (arrived : Arrived) → IfOk result (λ change. ComesTo None (repo_case state.now listed) arrived (came state.now change)) }
+    ensures ok { (arrived : Arrived) → IfOk result (ChangesTo state.now (repo_case state.now listed) arrived) }
     ensures fault { IfErr result IsMemory }
     ensures new { IfOk result (λ change. IsNew state.now change.state) }
 {
@@ -31,7 +32,7 @@ fn show_named(
     with_packages: &Option<bool>,
     name: &Text,
 ) -> Result<Change, ChangeFault>
-    ensures ok { (arrived : Arrived) → Valid state.now → IfOk result (λ change. ComesTo None (repo_case state.now (show_of with_packages.now name.now)) arrived (came state.now change)) }
+    ensures ok { (arrived : Arrived) → Valid state.now → IfOk result (ChangesTo state.now (repo_case state.now (show_of with_packages.now name.now)) arrived) }
     ensures fault { (arrived : Arrived) → Valid state.now → IfErr result (FaultIs (IsRefusedFor None (repo_case state.now (show_of with_packages.now name.now)) arrived)) }
     ensures new { IfOk result (λ change. IsNew state.now change.state) }
 {
@@ -47,8 +48,8 @@ pub fn show<M: Patterns>(
     command: &Command,
     _patterns: &mut M,
 ) -> Result<Change, ChangeFault>
-    ensures ok { (packages : Option Bool) (name : List ℕ) (arrived : Arrived) → plain command.now ≡ of_repo (show_of packages name) → Valid state.now → IfOk result (λ change. ComesTo None (repo_case state.now (show_of packages name)) arrived (came state.now change)) }
-    ensures fault { (packages : Option Bool) (name : List ℕ) (arrived : Arrived) → plain command.now ≡ of_repo (show_of packages name) → Valid state.now → IfErr result (FaultIs (IsRefusedFor None (repo_case state.now (show_of packages name)) arrived)) }
+    ensures ok { (c : RepoCommand) (arrived : Arrived) → plain command.now ≡ of_repo c → IsShow c → Valid state.now → IfOk result (ChangesTo state.now (repo_case state.now c) arrived) }
+    ensures fault { (c : RepoCommand) (arrived : Arrived) → plain command.now ≡ of_repo c → IsShow c → Valid state.now → IfErr result (FaultIs (IsRefusedFor None (repo_case state.now c) arrived)) }
     ensures new { IfOk result (λ change. IsNew state.now change.state) }
     ensures untouched { _patterns.new ≡ _patterns.old }
 {

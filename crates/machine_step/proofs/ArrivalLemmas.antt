@@ -26,8 +26,8 @@ use Rattle.package_intake.specs.Taking.{facts_of, agreed, of_known_or_file, take
 use Rattle.package_intake.specs.Steps.{and_then, or_refused}
 use Rattle.package_intake.specs.Catalogue.{within_catalogue}
 use Rattle.package_intake.specs.Faults.{IsInputLimit, IsInputRefusal}
-use Rattle.local_repo.specs.Arrival.{list_of, index_path, check_answer, fitting, entries_arrive, BytesArrive, Arrives}
-use Rattle.local_repo.specs.Answers.{IsArrival}
+use Rattle.package_intake.specs.Arrival.{list_of, index_path, check_answer, fitting, entries_arrive, BytesArrive, Arrives}
+use Rattle.package_intake.specs.Answers.{IsArrival}
 
 -- ---- what is refused of an arrival is of its steps
 abbrev Fine : {X : Type 0} → Result X Refusal → Type 0
@@ -91,14 +91,14 @@ arrive_fine files known own folder entries =
     then_fine {X = List Card} {Y = List Card} (or_refused Packages (join_answer (cards_of entries))) (λ joined. and_then (each_taken take joined) (λ list. fitting known own list)) (listed_fine {X = List Card} Packages tt (join_answer (cards_of entries)))
     (λ joined. then_fine {X = List Card} {Y = List Card} (each_taken take joined) (λ list. fitting known own list) (each_fine take (λ p. taken_fine files known (below_folder folder (path_of entries p)) p) joined) (λ list. fitting_fine known own list))
 
-arrives_refused : (files : Files) (s : StateView) (name : List ℕ) (folder : Path) (r : Refusal) → Arrives files s name folder (Err r) → IsInputRefusal r
+arrives_refused : (files : Files) (known own : List Card) (folder : Path) (r : Refusal) → Arrives files known own folder (Err r) → IsInputRefusal r
 unfolding Arrives
-arrives_refused files s name folder r arrives = go (index_bytes (index_path folder) (files (index_path folder))) (bytes_fine (index_path folder) (files (index_path folder))) arrives
+arrives_refused files known own folder r arrives = go (index_bytes (index_path folder) (files (index_path folder))) (bytes_fine (index_path folder) (files (index_path folder))) arrives
   where
-    go : (b : Result (List ℕ) Refusal) → Fine b → BytesArrive files s name folder b (Err r) → IsInputRefusal r
-    go (Ok bytes) fine w = subst (Fine {X = List Card}) (sym w.2) (then_fine {X = List IndexEntry} {Y = List Card} (or_malformed (index_path folder) w.0) (λ entries. entries_arrive files s.known (list_of s name) folder entries) (malformed_fine {X = List IndexEntry} (index_path folder) w.0) (λ entries. arrive_fine files s.known (list_of s name) folder entries))
+    go : (b : Result (List ℕ) Refusal) → Fine b → BytesArrive files known own folder b (Err r) → IsInputRefusal r
+    go (Ok bytes) fine w = subst (Fine {X = List Card}) (sym w.2) (then_fine {X = List IndexEntry} {Y = List Card} (or_malformed (index_path folder) w.0) (λ entries. entries_arrive files known own folder entries) (malformed_fine {X = List IndexEntry} (index_path folder) w.0) (λ entries. arrive_fine files known own folder entries))
     go (Err e) fine w = subst (Fine {X = List Card}) (sym w) fine
 
 pub arrival_refused : (input : Option Files) (s : StateView) (name : List ℕ) (folder : Path) (r : Refusal) → IsArrival input s name folder (arrivals.Refused r) → IsInputRefusal r
 arrival_refused None s name folder r is = is
-arrival_refused (Some files) s name folder r is = arrives_refused files s name folder r is
+arrival_refused (Some files) s name folder r is = arrives_refused files s.known (list_of s name) folder r is

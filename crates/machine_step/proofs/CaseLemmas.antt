@@ -3,7 +3,7 @@ use Rattle.std.proofs.Common.{◌≡◌, ◌≢◌, ◌⊎◌, ℕ, ℤ, List, [
 use Rattle.std.specs.Bool.{if◌then◌else◌}
 use Rattle.std.proofs.lemmas.List.{length-append}
 use Rattle.package_core.specs.Card.{Card}
-use Rattle.command_words.specs.Plain.{PlainCommand, RepoCommand, OtherCommand, of_mirror, of_repo, of_snapshot, of_publish, of_other, package_search, package_show}
+use Rattle.command_words.specs.Plain.{PlainCommand, RepoCommand, SnapshotCommand, OtherCommand, of_mirror, of_repo, of_snapshot, of_publish, of_other, package_search, package_show}
 use Rattle.machine_state.specs.declared.arrived.Arrived.{Arrived}
 use Rattle.machine_state.specs.Values.{StateView}
 use Rattle.reply_text.specs.Words.{line}
@@ -11,8 +11,11 @@ use Rattle.reply_text.specs.Replies as replies
 use Rattle.step_model.specs.declared.reading.Reading.TheVariants as readings
 use Rattle.step_model.specs.Lawful.{CommandLaw, IsLawful}
 use Rattle.step_model.specs.Refuses.{IsReadable, reading}
-use Rattle.local_repo.specs.Cases as repos
+use Rattle.repo_packages.specs.PackageCases as repos
 use Rattle.local_repo.specs.Cases.{repo_case}
+use Rattle.snapshot_ops.specs.Cases as snapshots
+use Rattle.snapshot_ops.specs.Cases.{snapshot_case}
+use Rattle.snapshot_ops.proofs.LawfulLemmas.{lawful, snapshot_reads}
 use Rattle.machine_step.specs.Causes.{IsUnbuilt}
 use Rattle.machine_step.specs.Step.{Given, MayArrive, case_of, other_case, read_for}
 use Rattle.machine_step.proofs.FamilyLemmas.{arrives_repo}
@@ -68,6 +71,20 @@ repo_command c (inr l) = inr (λ given large state.
       comes = λ arrived may. own.comes arrived (arrives_repo given large state (repo_case state c).reads arrived may);
     })
 
+snapshot_command : (c : SnapshotCommand) → CommandLaw (λ state. snapshot_case state c) snapshots.MayArrive → IsUnbuilt (of_snapshot c) ⊎ IsLawfulCommand (of_snapshot c)
+unfolding case_of
+snapshot_command c (inl e) = inl (λ now state. e state)
+snapshot_command c (inr l) = inr (λ given large state.
+    let own = l given.inbox state in
+    record {
+      valid = λ v early late arrived may. own.valid v early late arrived tt;
+      says = own.says;
+      knows = own.knows;
+      early = own.early;
+      late = own.late;
+      comes = λ arrived may. own.comes arrived tt;
+    })
+
 other_command : (c : OtherCommand) → IsUnbuilt (of_other c) ⊎ IsLawfulCommand (of_other c)
 unfolding case_of other_case
 other_command (package_search query) = inr (λ given large state. asking_lawful state _ query replies.package_search searched_some)
@@ -79,7 +96,7 @@ unfolding case_of
 command_built law (of_repo c) = repo_command c (law c)
 command_built law (of_other c) = other_command c
 command_built law (of_mirror c) = inl (λ now state. refl)
-command_built law (of_snapshot c) = inl (λ now state. refl)
+command_built law (of_snapshot c) = snapshot_command c (lawful c)
 command_built law (of_publish c) = inl (λ now state. refl)
 
 -- ---- what is read
@@ -99,5 +116,5 @@ unfolding case_of
 readable repos now state (of_repo c) = repos state c
 readable repos now state (of_other c) = other_reads state c
 readable repos now state (of_mirror c) = tt
-readable repos now state (of_snapshot c) = tt
+readable repos now state (of_snapshot c) = snapshot_reads state c
 readable repos now state (of_publish c) = tt

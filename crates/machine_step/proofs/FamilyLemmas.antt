@@ -2,7 +2,7 @@
 use Rattle.std.proofs.Common.{◌≡◌, ℕ, ℤ, List, Option, Some, refl, sym, ap, ◌∙◌}
 use Rattle.command_table.specs.declared.command.Command.{Command}
 use Rattle.command_table.specs.declared.command.Command.TheVariants as commands
-use Rattle.command_words.specs.Plain.{PlainCommand, RepoCommand, OtherCommand, plain, of_mirror, of_repo, of_snapshot, of_publish, of_other, package_search, package_show}
+use Rattle.command_words.specs.Plain.{PlainCommand, RepoCommand, SnapshotCommand, OtherCommand, plain, of_mirror, of_repo, of_snapshot, of_publish, of_other, package_search, package_show}
 use Rattle.machine_state.specs.declared.change.ChangeFault.TheVariants as faults
 use Rattle.machine_state.specs.declared.refusal.Refusal.{Refusal}
 use Rattle.machine_state.specs.declared.refusal.Refusal.TheVariants.{PatternTooLarge}
@@ -13,8 +13,9 @@ use Rattle.step_model.specs.declared.reading.Reading.{Reading}
 use Rattle.step_model.specs.declared.reading.Reading.TheVariants as readings
 use Rattle.step_model.specs.Answers.{KeepsBut}
 use Rattle.step_model.specs.Case.{Case, unbuilt}
-use Rattle.local_repo.specs.Cases as repos
+use Rattle.repo_packages.specs.PackageCases as repos
 use Rattle.local_repo.specs.Cases.{repo_case}
+use Rattle.snapshot_ops.specs.Cases.{snapshot_case}
 use Rattle.machine_step.specs.Answers.{KeepsUnlessTold}
 use Rattle.machine_step.specs.Family.{family}
 use Rattle.machine_step.specs.Step.{Given, MayArrive, asking, case_of, other_case}
@@ -27,6 +28,13 @@ is_repo (of_snapshot r) e = absurd (cc)
 is_repo (of_publish r) e = absurd (cc)
 is_repo (of_other r) e = absurd (cc)
 
+pub is_snapshot : (c : PlainCommand) → family c ≡ families.Snapshot → (r : SnapshotCommand) × (c ≡ of_snapshot r)
+is_snapshot (of_snapshot r) e = (r, refl)
+is_snapshot (of_mirror r) e = absurd (cc)
+is_snapshot (of_repo r) e = absurd (cc)
+is_snapshot (of_publish r) e = absurd (cc)
+is_snapshot (of_other r) e = absurd (cc)
+
 pub is_other : (c : PlainCommand) → family c ≡ families.Other → (r : OtherCommand) × (c ≡ of_other r)
 is_other (of_other r) e = (r, refl)
 is_other (of_mirror r) e = absurd (cc)
@@ -38,18 +46,22 @@ pub case_of_repo : (now : ℤ) (s : StateView) (c : PlainCommand) (r : RepoComma
 unfolding case_of
 case_of_repo now s c r e = sym (ap (case_of now s) e)
 
+pub case_of_snapshot : (now : ℤ) (s : StateView) (c : PlainCommand) (r : SnapshotCommand) → c ≡ of_snapshot r → snapshot_case s r ≡ case_of now s c
+unfolding case_of
+case_of_snapshot now s c r e = sym (ap (case_of now s) e)
+
 pub case_of_other : (now : ℤ) (s : StateView) (c : PlainCommand) (r : OtherCommand) → c ≡ of_other r → other_case s r ≡ case_of now s c
 unfolding case_of
 case_of_other now s c r e = sym (ap (case_of now s) e)
 
 -- the families of which no command is built
-pub case_of_rest : (now : ℤ) (s : StateView) (c : PlainCommand) → (family c ≡ families.Repo → ⊥) → (family c ≡ families.Other → ⊥) → case_of now s c ≡ unbuilt
+pub case_of_rest : (now : ℤ) (s : StateView) (c : PlainCommand) → (family c ≡ families.Repo → ⊥) → (family c ≡ families.Snapshot → ⊥) → (family c ≡ families.Other → ⊥) → case_of now s c ≡ unbuilt
 unfolding case_of
-case_of_rest now s (of_mirror c) a b = refl
-case_of_rest now s (of_repo c) a b = absurd (a refl)
-case_of_rest now s (of_snapshot c) a b = refl
-case_of_rest now s (of_publish c) a b = refl
-case_of_rest now s (of_other c) a b = absurd (b refl)
+case_of_rest now s (of_mirror c) a b d = refl
+case_of_rest now s (of_repo c) a b d = absurd (a refl)
+case_of_rest now s (of_snapshot c) a b d = absurd (b refl)
+case_of_rest now s (of_publish c) a b d = refl
+case_of_rest now s (of_other c) a b d = absurd (d refl)
 
 -- what may arrive for a command of repositories
 pub arrives_repo : (given : Given) (large : Option (List ℕ)) (s : StateView) (reading : Reading) (arrived : Arrived) → MayArrive given large s reading arrived → repos.MayArrive given.inbox s reading arrived

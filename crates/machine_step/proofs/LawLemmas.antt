@@ -25,9 +25,9 @@ use Rattle.step_model.specs.Refuses.{IsPatternRefusal, Refuses, reading}
 use Rattle.step_model.specs.Steps as steps
 use Rattle.step_model.proofs.RefusalLemmas.{Cause, none_some, passed, reads_on}
 use Rattle.step_model.proofs.StepLemmas.{is_built, refused_kept, refused_says, step_cause, step_knows, step_plain, step_says, step_some, step_valid}
-use Rattle.local_repo.specs.Arrival.{Arrives}
+use Rattle.package_intake.specs.Arrival.{Arrives, list_of}
 use Rattle.package_intake.specs.Faults.{IsInputRefusal}
-use Rattle.local_repo.specs.Answers.{IsArrival}
+use Rattle.package_intake.specs.Answers.{IsArrival}
 use Rattle.machine_step.specs.Causes.{IsCause, IsUnbuilt}
 use Rattle.step_model.specs.Refuses.{IsReadable}
 use Rattle.machine_step.specs.Step.{Given, MayArrive, Step, StepWith, case_of, read_for, refused}
@@ -86,20 +86,20 @@ knows_step law now large state c arrived outcome s = step_knows refusal_line lar
 -- ---- something may arrive for each command
 
 abbrev pub SomeArrives : Type 0
-SomeArrives = (files : Files) (state : StateView) (name : List ℕ) (folder : List ℕ) → (arrived : Result (List Card) Refusal) × Arrives files state name folder arrived
+SomeArrives = (files : Files) (known own : List Card) (folder : List ℕ) → (arrived : Result (List Card) Refusal) × Arrives files known own folder arrived
 
 arrives : SomeArrives → (given : Given) (large : Option (List ℕ)) (state : StateView) (r : Reading) → IsReadable r → (arrived : Arrived) × MayArrive given large state r arrived
 arrives some given large state readings.Nothing is = (arrivals.Nothing, refl)
 arrives some given large state (readings.Mirror name) is = absurd is
 arrives some given large state (readings.Folder name folder) is = by_inbox given.inbox
   where
-    by_arrival : (f : Files) (r : Result (List Card) Refusal) → Arrives f state name folder r → (arrived : Arrived) × IsArrival (Some f) state name folder arrived
+    by_arrival : (f : Files) (r : Result (List Card) Refusal) → Arrives f state.known (list_of state name) folder r → (arrived : Arrived) × IsArrival (Some f) state name folder arrived
     by_arrival f (Ok list) e = (arrivals.List list [], (refl, e))
     by_arrival f (Err refusal) e = (arrivals.Refused refusal, e)
 
     by_inbox : (inbox : Option Files) → (arrived : Arrived) × IsArrival inbox state name folder arrived
     by_inbox None = (arrivals.Refused (InputAbsent folder), tt)
-    by_inbox (Some f) = let a = some f state name folder in by_arrival f a.0 a.1
+    by_inbox (Some f) = let a = some f state.known (list_of state name) folder in by_arrival f a.0 a.1
 
 pub total_step : RepoReads → SomeArrives → (given : Given) (large : Option (List ℕ)) (state : StateView) (c : PlainCommand) → (outcome : Out) × Step given large state c outcome
 total_step reads some given large state c =

@@ -11,19 +11,22 @@ use Rattle.reply_text.specs.Refusals.{refusal_line}
 use Rattle.step_model.specs.Lawful.{IsFrom}
 use Rattle.step_model.specs.Refuses.{Refuses}
 use Rattle.package_intake.proofs.EntryLemmas.{listed_packages}
-use Rattle.local_repo.proofs.LawLemmas.{arrives_fit}
-use Rattle.local_repo.proofs.LawfulLemmas.{lawful}
-use Rattle.local_repo.proofs.ReadLemmas.{repo_reads}
-use Rattle.local_repo.proofs.TotalLemmas.{some_arrives}
+use Rattle.package_intake.proofs.LawLemmas.{arrives_fit}
+use Rattle.repo_packages.proofs.PackageLaws.{add_law, copy_law, move_law, remove_law}
+use Rattle.local_repo.proofs.LawfulLemmas as repos
+use Rattle.package_intake.proofs.TotalLemmas.{some_arrives}
 use Rattle.machine_step.specs.Causes.{IsCause, IsUnbuilt}
 use Rattle.step_model.specs.Refuses.{IsReadable}
 use Rattle.machine_step.specs.Step.{Given, Step, StepWith, case_of, read_for, refused}
 use Rattle.machine_step.proofs.CaseLemmas as cases
-use Rattle.machine_step.proofs.CaseLemmas.{RepoLaw}
+use Rattle.machine_step.proofs.CaseLemmas.{RepoLaw, RepoReads}
 use Rattle.machine_step.proofs.LawLemmas.{valid_step, total_step, refuses_step, says_refusal, says_step, plain_step, knows_step, cause_step, unbuilt_step}
 
 repo_law : RepoLaw
-repo_law = lawful (arrives_fit listed_packages)
+repo_law = repos.lawful (add_law (arrives_fit listed_packages)) remove_law copy_law move_law
+
+repo_reads : RepoReads
+repo_reads = repos.repo_reads (add_law (arrives_fit listed_packages)) remove_law copy_law move_law
 
 module _ (given : Given) (large : Option (List ℕ)) (state : StateView) (c : PlainCommand) where
   pub total : (outcome : Outcome StateView Refusal) × Step given large state c outcome

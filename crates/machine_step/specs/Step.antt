@@ -3,7 +3,7 @@ use Rattle.std.specs.Prelude.{◌≡◌, ℕ, ℤ, List, [], ◌∷◌, Option, 
 use Rattle.ap_host.specs.Disk.{Files}
 use Rattle.package_core.specs.Card.{Card}
 use Rattle.run_model.specs.Run.{Outcome}
-use Rattle.command_words.specs.Plain.{PlainCommand, OtherCommand, of_repo, of_other, package_search, package_show}
+use Rattle.command_words.specs.Plain.{PlainCommand, OtherCommand, of_repo, of_snapshot, of_other, package_search, package_show}
 use Rattle.machine_state.specs.declared.refusal.Refusal.{Refusal}
 use Rattle.machine_state.specs.declared.arrived.Arrived.{Arrived}
 use Rattle.machine_state.specs.declared.arrived.Arrived.TheVariants as arrivals
@@ -14,8 +14,9 @@ use Rattle.step_model.specs.Case.{Case, changes, unbuilt, bad_queries, condition
 use Rattle.step_model.specs.Refuses.{reading}
 use Rattle.step_model.specs.Steps as steps
 use Rattle.step_model.specs.Queries.{found_by}
-use Rattle.local_repo.specs.Answers.{IsArrival}
+use Rattle.package_intake.specs.Answers.{IsArrival}
 use Rattle.local_repo.specs.Cases.{repo_case}
+use Rattle.snapshot_ops.specs.Cases.{snapshot_case}
 use Rattle.reply_text.specs.Refusals.{refusal_line}
 use Rattle.reply_text.specs.Replies as replies
 use Rattle.query_grammar.specs.Said.{query_of}
@@ -48,6 +49,7 @@ other_case state command = unbuilt
 -- what a command is in a state at this moment: that of its family
 unfoldable pub case_of : ℤ → StateView → PlainCommand → Case
 case_of now state (of_repo command) = repo_case state command
+case_of now state (of_snapshot command) = snapshot_case state command
 case_of now state (of_other command) = other_case state command
 case_of now state command = unbuilt
 
@@ -69,7 +71,11 @@ StepWith now large state command arrived outcome = steps.StepWith refusal_line l
 abbrev pub read_for : ℤ → StateView → PlainCommand → Reading
 read_for now state command = reading (case_of now state command)
 
+-- what may arrive for the command
+abbrev pub ArrivesFor : Given → Option (List ℕ) → StateView → PlainCommand → Arrived → Type 0
+ArrivesFor given large state command arrived = MayArrive given large state (read_for given.now state command) arrived
+
 -- The command may come to this in this state, in a call that is given this.
 abbrev pub Step : Given → Option (List ℕ) → StateView → PlainCommand → Outcome StateView Refusal → Type 0
 Step given large state command outcome =
-    (arrived : Arrived) × MayArrive given large state (read_for given.now state command) arrived × StepWith given.now large state command arrived outcome
+    (arrived : Arrived) × ArrivesFor given large state command arrived × StepWith given.now large state command arrived outcome

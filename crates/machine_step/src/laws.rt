@@ -14,7 +14,8 @@ ghost use Rattle.machine_step.specs.Causes.{IsCause, IsUnbuilt};
 ghost use Rattle.step_model.specs.Refuses.{IsReadable};
 ghost use Rattle.machine_step.specs.Step.{case_of, Given, read_for, refused, Step, StepWith};
 
-use local_repo::{arrivals_fit, repo_cases_are_lawful};
+use local_repo::repo_cases_are_lawful;
+use package_intake::arrivals_fit;
 
 /// What holds of every step.
 pub fn laws_of_steps()

@@ -6,9 +6,8 @@ ghost use Rattle.query_grammar.specs.Said.{query_of};
 ghost use Rattle.machine_state.specs.Values.{StateView};
 ghost use Rattle.machine_state.specs.declared.arrived.Arrived.{Arrived as ArrivedOf};
 ghost use Rattle.reply_text.specs.Replies.{package_search as search_line, package_show as show_line};
-ghost use Rattle.step_model.specs.Answers.{AreBuilt, came, ComesTo, FaultIs, IsNew, IsRefusedFor, IsWanted, KeepsText, QueriesRefuse, Told};
+ghost use Rattle.step_model.specs.Answers.{AreBuilt, ChangesTo, FaultIs, IsNew, IsWanted, KeepsBy, QueriesRefuse, RefusedBy, RefusesBy, ToldBy};
 ghost use Rattle.step_model.specs.Queries.{found_by};
-ghost use Rattle.step_model.specs.Refuses.{Refuses};
 ghost use Rattle.machine_step.specs.Step.{asking, other_case};
 
 use command_words::Command;
@@ -27,9 +26,9 @@ fn asking_needs<M: Patterns>(
     patterns: &mut M,
 ) -> Result<Reading, ChangeFault>
     ensures ok { (state : StateView) (say : List Card → List ℕ) → IfOk result (IsWanted None (asking state query.now say)) }
-    ensures fault { (state : StateView) (say : List Card → List ℕ) → IfErr result (FaultIs (λ refusal. Told (M.refusals patterns.old) (M.refusals patterns.new) (M.refused patterns.new) (λ large. Refuses large (asking state query.now say) (Some refusal)))) }
+    ensures fault { (state : StateView) (say : List Card → List ℕ) → IfErr result (RefusesBy M.Patterns patterns.old patterns.new (asking state query.now say)) }
     ensures never_falls { M.refusals patterns.old ≤ M.refusals patterns.new }
-    ensures kept { KeepsText (M.refused patterns.old) (M.refused patterns.new) result }
+    ensures kept { KeepsBy M.Patterns patterns.old patterns.new result }
 {
     prepared(alloc, query, patterns)?;
     Ok(Reading::Nothing)
@@ -42,9 +41,9 @@ pub(crate) fn package_needs<M: Patterns>(
     patterns: &mut M,
 ) -> Result<Reading, ChangeFault>
     ensures ok { (state : StateView) (c : OtherCommand) → plain command.now ≡ of_other c → IfOk result (IsWanted None (other_case state c)) }
-    ensures fault { (state : StateView) (c : OtherCommand) → plain command.now ≡ of_other c → IfErr result (FaultIs (λ refusal. Told (M.refusals patterns.old) (M.refusals patterns.new) (M.refused patterns.new) (λ large. Refuses large (other_case state c) (Some refusal)))) }
+    ensures fault { (state : StateView) (c : OtherCommand) → plain command.now ≡ of_other c → IfErr result (RefusesBy M.Patterns patterns.old patterns.new (other_case state c)) }
     ensures never_falls { M.refusals patterns.old ≤ M.refusals patterns.new }
-    ensures kept { KeepsText (M.refused patterns.old) (M.refused patterns.new) result }
+    ensures kept { KeepsBy M.Patterns patterns.old patterns.new result }
 {
     match command {
         Command::PackageSearch { query } => asking_needs(alloc, query, patterns),
@@ -62,9 +61,9 @@ fn found<M: Patterns>(
 ) -> Result<PackageList, ChangeFault>
     ensures found { IfOk result (λ found. found ≡ found_by state.now.known (query_of text.now)) }
     ensures good { OnOk result (AreBuilt (text.now ∷ [])) }
-    ensures fault { IfErr result (FaultIs (λ refusal. Told (M.refusals patterns.old) (M.refusals patterns.new) (M.refused patterns.new) (λ large. QueriesRefuse large (text.now ∷ []) refusal))) }
+    ensures fault { IfErr result (FaultIs (λ refusal. ToldBy M.Patterns patterns.old patterns.new (λ large. QueriesRefuse large (text.now ∷ []) refusal))) }
     ensures never_falls { M.refusals patterns.old ≤ M.refusals patterns.new }
-    ensures kept { KeepsText (M.refused patterns.old) (M.refused patterns.new) result }
+    ensures kept { KeepsBy M.Patterns patterns.old patterns.new result }
 {
     let asked = prepared(alloc, text, patterns)?;
     Ok(found_in(alloc, &state.known, &asked)?)
@@ -77,11 +76,11 @@ fn search<M: Patterns>(
     query: &Text,
     patterns: &mut M,
 ) -> Result<Change, ChangeFault>
-    ensures ok { (arrived : ArrivedOf) → IfOk result (λ change. ComesTo None (asking state.now query.now search_line) arrived (came state.now change)) }
-    ensures fault { (arrived : ArrivedOf) → IfErr result (FaultIs (λ refusal. Told (M.refusals patterns.old) (M.refusals patterns.new) (M.refused patterns.new) (λ large. IsRefusedFor large (asking state.now query.now search_line) arrived refusal))) }
+    ensures ok { (arrived : ArrivedOf) → IfOk result (ChangesTo state.now (asking state.now query.now search_line) arrived) }
+    ensures fault { (arrived : ArrivedOf) → IfErr result (RefusedBy M.Patterns patterns.old patterns.new (asking state.now query.now search_line) arrived) }
     ensures new { IfOk result (λ change. IsNew state.now change.state) }
     ensures never_falls { M.refusals patterns.old ≤ M.refusals patterns.new }
-    ensures kept { KeepsText (M.refused patterns.old) (M.refused patterns.new) result }
+    ensures kept { KeepsBy M.Patterns patterns.old patterns.new result }
 {
     let found = found(alloc, state, query, patterns)?;
     let reply = package_search(alloc, &found)?;
@@ -95,11 +94,11 @@ fn show<M: Patterns>(
     query: &Text,
     patterns: &mut M,
 ) -> Result<Change, ChangeFault>
-    ensures ok { (arrived : ArrivedOf) → IfOk result (λ change. ComesTo None (asking state.now query.now show_line) arrived (came state.now change)) }
-    ensures fault { (arrived : ArrivedOf) → IfErr result (FaultIs (λ refusal. Told (M.refusals patterns.old) (M.refusals patterns.new) (M.refused patterns.new) (λ large. IsRefusedFor large (asking state.now query.now show_line) arrived refusal))) }
+    ensures ok { (arrived : ArrivedOf) → IfOk result (ChangesTo state.now (asking state.now query.now show_line) arrived) }
+    ensures fault { (arrived : ArrivedOf) → IfErr result (RefusedBy M.Patterns patterns.old patterns.new (asking state.now query.now show_line) arrived) }
     ensures new { IfOk result (λ change. IsNew state.now change.state) }
     ensures never_falls { M.refusals patterns.old ≤ M.refusals patterns.new }
-    ensures kept { KeepsText (M.refused patterns.old) (M.refused patterns.new) result }
+    ensures kept { KeepsBy M.Patterns patterns.old patterns.new result }
 {
     let found = found(alloc, state, query, patterns)?;
     let reply = package_show(alloc, &found)?;
@@ -113,11 +112,11 @@ pub(crate) fn package_change<M: Patterns>(
     command: &Command,
     patterns: &mut M,
 ) -> Result<Change, ChangeFault>
-    ensures ok { (c : OtherCommand) (arrived : ArrivedOf) → plain command.now ≡ of_other c → IfOk result (λ change. ComesTo None (other_case state.now c) arrived (came state.now change)) }
-    ensures fault { (c : OtherCommand) (arrived : ArrivedOf) → plain command.now ≡ of_other c → IfErr result (FaultIs (λ refusal. Told (M.refusals patterns.old) (M.refusals patterns.new) (M.refused patterns.new) (λ large. IsRefusedFor large (other_case state.now c) arrived refusal))) }
+    ensures ok { (c : OtherCommand) (arrived : ArrivedOf) → plain command.now ≡ of_other c → IfOk result (ChangesTo state.now (other_case state.now c) arrived) }
+    ensures fault { (c : OtherCommand) (arrived : ArrivedOf) → plain command.now ≡ of_other c → IfErr result (RefusedBy M.Patterns patterns.old patterns.new (other_case state.now c) arrived) }
     ensures new { IfOk result (λ change. IsNew state.now change.state) }
     ensures never_falls { M.refusals patterns.old ≤ M.refusals patterns.new }
-    ensures kept { KeepsText (M.refused patterns.old) (M.refused patterns.new) result }
+    ensures kept { KeepsBy M.Patterns patterns.old patterns.new result }
 {
     match command {
         Command::PackageSearch { query } => search(alloc, state, query, patterns),

@@ -3,15 +3,14 @@ ghost use Rattle.std.specs.Prelude.{◌≤◌, ◌≡◌, ℕ, ℤ, List, IfOk, 
 ghost use Rattle.ap_host.specs.Disk.{Files};
 ghost use Rattle.command_words.specs.Plain.{plain};
 ghost use Rattle.machine_state.specs.State.{Valid};
-ghost use Rattle.step_model.specs.Answers.{came, ComesTo, FaultIs, IsNew, IsRefusedFor, KeepsText, Told};
+ghost use Rattle.step_model.specs.Answers.{ChangesBy, IsNew, KeepsBy, RefusedBy, ToldBy};
 ghost use Rattle.machine_step.specs.Answers.{seen, KeepsUnlessTold};
-ghost use Rattle.machine_step.specs.Step.{case_of, giving, MayArrive, read_for, StepWith};
+ghost use Rattle.machine_step.specs.Step.{ArrivesFor, case_of, giving, StepWith};
 
 use crate::family::{Family, family_of};
 use crate::outcome::Outcome;
 use crate::packages::package_change;
 use command_words::Command;
-use local_repo::change;
 use machine_state::{Arrived, Change, ChangeFault, Refusal, State};
 use query_eval::Patterns;
 use std::alloc::{AllocError, Global};
@@ -24,14 +23,15 @@ fn change_of<M: Patterns>(
     arrived: &Arrived,
     patterns: &mut M,
 ) -> Result<Change, ChangeFault>
-    ensures ok { (now : ℤ) (inbox : Option Files) (large : Option (List ℕ)) → Valid state.now → MayArrive (giving inbox now) large state.now (read_for now state.now (plain command.now)) arrived.now → IfOk result (λ change. Told (M.refusals patterns.old) (M.refusals patterns.new) (M.refused patterns.new) (λ large. ComesTo large (case_of now state.now (plain command.now)) arrived.now (came state.now change))) }
-    ensures fault { (now : ℤ) (inbox : Option Files) (large : Option (List ℕ)) → Valid state.now → MayArrive (giving inbox now) large state.now (read_for now state.now (plain command.now)) arrived.now → IfErr result (FaultIs (λ refusal. Told (M.refusals patterns.old) (M.refusals patterns.new) (M.refused patterns.new) (λ large. IsRefusedFor large (case_of now state.now (plain command.now)) arrived.now refusal))) }
-    ensures new { (now : ℤ) (inbox : Option Files) (large : Option (List ℕ)) → Valid state.now → MayArrive (giving inbox now) large state.now (read_for now state.now (plain command.now)) arrived.now → IfOk result (λ change. IsNew state.now change.state) }
+    ensures ok { (now : ℤ) (inbox : Option Files) (large : Option (List ℕ)) → Valid state.now → ArrivesFor (giving inbox now) large state.now (plain command.now) arrived.now → IfOk result (ChangesBy M.Patterns patterns.old patterns.new state.now (case_of now state.now (plain command.now)) arrived.now) }
+    ensures fault { (now : ℤ) (inbox : Option Files) (large : Option (List ℕ)) → Valid state.now → ArrivesFor (giving inbox now) large state.now (plain command.now) arrived.now → IfErr result (RefusedBy M.Patterns patterns.old patterns.new (case_of now state.now (plain command.now)) arrived.now) }
+    ensures new { (now : ℤ) (inbox : Option Files) (large : Option (List ℕ)) → Valid state.now → ArrivesFor (giving inbox now) large state.now (plain command.now) arrived.now → IfOk result (λ change. IsNew state.now change.state) }
     ensures never_falls { M.refusals patterns.old ≤ M.refusals patterns.new }
-    ensures kept { KeepsText (M.refused patterns.old) (M.refused patterns.new) result }
+    ensures kept { KeepsBy M.Patterns patterns.old patterns.new result }
 {
     match family_of(command) {
-        Family::Repo => change(alloc, state, command, arrived, patterns),
+        Family::Repo => local_repo::change(alloc, state, command, arrived, patterns),
+        Family::Snapshot => snapshot_ops::change(alloc, state, command, patterns),
         Family::Other => package_change(alloc, state, command, patterns),
         _ => Err(ChangeFault::Refused(Refusal::NotBuilt)),
     }
@@ -49,9 +49,9 @@ pub fn step_at<M: Patterns>(
     now: &i64,
     patterns: &mut M,
 ) -> Result<Outcome, AllocError>
-    ensures step { (inbox : Option Files) (large : Option (List ℕ)) → Valid state.now → MayArrive (giving inbox now.now) large state.now (read_for now.now state.now (plain command.now)) arrived → IfOk result (λ outcome. Told (M.refusals patterns.old) (M.refusals patterns.new) (M.refused patterns.new) (λ large. StepWith now.now large state.now (plain command.now) arrived (seen state.now outcome))) }
+    ensures step { (inbox : Option Files) (large : Option (List ℕ)) → Valid state.now → ArrivesFor (giving inbox now.now) large state.now (plain command.now) arrived → IfOk result (λ outcome. ToldBy M.Patterns patterns.old patterns.new (λ large. StepWith now.now large state.now (plain command.now) arrived (seen state.now outcome))) }
     // A state is new only where it is another one.
-    ensures changed { (inbox : Option Files) (large : Option (List ℕ)) → Valid state.now → MayArrive (giving inbox now.now) large state.now (read_for now.now state.now (plain command.now)) arrived → IfOk result (λ outcome. IsNew state.now outcome.state) }
+    ensures changed { (inbox : Option Files) (large : Option (List ℕ)) → Valid state.now → ArrivesFor (giving inbox now.now) large state.now (plain command.now) arrived → IfOk result (λ outcome. IsNew state.now outcome.state) }
     // A refused command leaves the state as it was.
     ensures kept { IfOk result (λ outcome. IsSome outcome.refusal → outcome.state ≡ None) }
     ensures never_falls { M.refusals patterns.old ≤ M.refusals patterns.new }
@@ -78,9 +78,9 @@ pub fn step<M: Patterns>(
     now: i64,
     patterns: &mut M,
 ) -> Result<Outcome, AllocError>
-    ensures step { (inbox : Option Files) (large : Option (List ℕ)) → Valid state.now → MayArrive (giving inbox now) large state.now (read_for now state.now (plain command.now)) arrived → IfOk result (λ outcome. Told (M.refusals patterns.old) (M.refusals patterns.new) (M.refused patterns.new) (λ large. StepWith now large state.now (plain command.now) arrived (seen state.now outcome))) }
+    ensures step { (inbox : Option Files) (large : Option (List ℕ)) → Valid state.now → ArrivesFor (giving inbox now) large state.now (plain command.now) arrived → IfOk result (λ outcome. ToldBy M.Patterns patterns.old patterns.new (λ large. StepWith now large state.now (plain command.now) arrived (seen state.now outcome))) }
     // A state is new only where it is another one.
-    ensures changed { (inbox : Option Files) (large : Option (List ℕ)) → Valid state.now → MayArrive (giving inbox now) large state.now (read_for now state.now (plain command.now)) arrived → IfOk result (λ outcome. IsNew state.now outcome.state) }
+    ensures changed { (inbox : Option Files) (large : Option (List ℕ)) → Valid state.now → ArrivesFor (giving inbox now) large state.now (plain command.now) arrived → IfOk result (λ outcome. IsNew state.now outcome.state) }
     // A refused command leaves the state as it was.
     ensures kept { IfOk result (λ outcome. IsSome outcome.refusal → outcome.state ≡ None) }
     ensures never_falls { M.refusals patterns.old ≤ M.refusals patterns.new }

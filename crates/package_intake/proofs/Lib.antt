@@ -9,3 +9,8 @@ pub mod StanzaLemmas
 pub mod EntryLemmas
 pub mod FaultLemmas
 pub mod IndexTotal
+pub mod FitLemmas
+pub mod ArrivalLemmas
+pub mod AddLemmas
+pub mod TotalLemmas
+pub mod LawLemmas

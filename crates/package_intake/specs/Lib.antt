@@ -5,3 +5,6 @@ pub mod Catalogue
 pub mod Faults
 pub mod Additions
 pub mod Inside
+pub mod Arrival
+pub mod Fits
+pub mod Answers

@@ -2,9 +2,11 @@ use Rattle.std.proofs.Common.{◌≡◌, ℕ, List, None, subst}
 use Rattle.machine_state.specs.declared.limit.Kind.TheVariants as kinds
 use Rattle.machine_state.specs.Sources.{in_use}
 use Rattle.step_model.specs.Names.{bad_name}
-use Rattle.step_model.proofs.FaultLemmas.{at_exit, second_decides}
-use Rattle.local_repo.specs.Cases.{repo_case, unknown}
-use Rattle.local_repo.proofs.CaseLemmas.{first_decides, unknown_along, used_along}
+use Rattle.step_model.proofs.FaultLemmas.{at_exit, second_decides, first_decides}
+use Rattle.local_repo.specs.Cases.{repo_case}
+use Rattle.local_repo.proofs.CaseLemmas.{used_along}
+use Rattle.repo_packages.specs.PackageCases.{unknown}
+use Rattle.repo_packages.proofs.CaseLemmas.{unknown_along}
 use Rattle.local_repo.proofs.early.drop_early.Goals as goal
 
 pub returns-in_err-there-clause-fault : goal.returns-in_err-there-clause-fault

@@ -1,8 +1,9 @@
 use Rattle.step_model.specs.Names.{bad_name}
 use Rattle.step_model.proofs.FaultLemmas.{err_map, second_decides}
-use Rattle.local_repo.specs.Cases.{repo_case, unknown}
+use Rattle.local_repo.specs.Cases.{repo_case}
 use Rattle.local_repo.specs.Settings.{bad_settings}
-use Rattle.local_repo.proofs.CaseLemmas.{unknown_along}
+use Rattle.repo_packages.specs.PackageCases.{unknown}
+use Rattle.repo_packages.proofs.CaseLemmas.{unknown_along}
 use Rattle.local_repo.proofs.early.edit_early.Goals as goal
 
 pub returns-clause-fault : goal.returns-clause-fault

@@ -1,8 +1,10 @@
 use Rattle.std.proofs.Common.{◌≡◌, ℕ, List, None, subst}
 use Rattle.step_model.specs.Names.{bad_name}
-use Rattle.step_model.proofs.FaultLemmas.{at_exit, second_decides}
-use Rattle.local_repo.specs.Cases.{repo_case, taken, unknown}
-use Rattle.local_repo.proofs.CaseLemmas.{first_decides, taken_along, unknown_along}
+use Rattle.step_model.proofs.FaultLemmas.{at_exit, second_decides, first_decides}
+use Rattle.local_repo.specs.Cases.{repo_case, taken}
+use Rattle.local_repo.proofs.CaseLemmas.{taken_along}
+use Rattle.repo_packages.specs.PackageCases.{unknown}
+use Rattle.repo_packages.proofs.CaseLemmas.{unknown_along}
 use Rattle.local_repo.proofs.early.rename_early.Goals as goal
 
 pub returns-in_err-free-clause-fault : goal.returns-in_err-free-clause-fault

@@ -5,12 +5,12 @@ use Rattle.local_repo.proofs.CaseLemmas.{case_along, is_edit}
 use Rattle.local_repo.proofs.editing.edit.Goals as goal
 
 pub returns-in-RepoEdit-clause-ok : goal.returns-in-RepoEdit-clause-ok
-returns-in-RepoEdit-clause-ok g c = λ comment distribution component name arrived e v.
-    ok_along None c.args.state.now _ _ arrived c.edit_with.result (case_along c.args.state.now c.args.command.now _ _ e (ap plain c.in-RepoEdit.is)) (c.edit_with.ensures.ok arrived v)
+returns-in-RepoEdit-clause-ok g c = λ k arrived e is v.
+    ok_along None c.args.state.now _ _ arrived c.edit_with.result (case_along c.args.state.now c.args.command.now k _ e (ap plain c.in-RepoEdit.is)) (c.edit_with.ensures.ok arrived v)
 
 pub returns-in-RepoEdit-clause-fault : goal.returns-in-RepoEdit-clause-fault
-returns-in-RepoEdit-clause-fault g c = λ comment distribution component name arrived e v.
-    fault_along None _ _ arrived c.edit_with.result (case_along c.args.state.now c.args.command.now _ _ e (ap plain c.in-RepoEdit.is)) (c.edit_with.ensures.fault arrived v)
+returns-in-RepoEdit-clause-fault g c = λ k arrived e is v.
+    fault_along None _ _ arrived c.edit_with.result (case_along c.args.state.now c.args.command.now k _ e (ap plain c.in-RepoEdit.is)) (c.edit_with.ensures.fault arrived v)
 
 pub returns-in_default-clause-fault : goal.returns-in_default-clause-fault
-returns-in_default-clause-fault g c = λ comment distribution component name arrived e v. absurd (is_edit c.args.command.now comment distribution component name e c.in_default.not-RepoEdit)
+returns-in_default-clause-fault g c = λ k arrived e is v. absurd (is_edit c.args.command.now k e is c.in_default.not-RepoEdit)

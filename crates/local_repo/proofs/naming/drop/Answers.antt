@@ -5,12 +5,12 @@ use Rattle.local_repo.proofs.CaseLemmas.{case_along, is_drop}
 use Rattle.local_repo.proofs.naming.drop.Goals as goal
 
 pub returns-in-RepoDrop-clause-ok : goal.returns-in-RepoDrop-clause-ok
-returns-in-RepoDrop-clause-ok g c = λ name arrived e v.
-    ok_along None c.args.state.now _ _ arrived c.drop_named.result (case_along c.args.state.now c.args.command.now _ _ e (ap plain c.in-RepoDrop.is)) (c.drop_named.ensures.ok arrived v)
+returns-in-RepoDrop-clause-ok g c = λ k arrived e is v.
+    ok_along None c.args.state.now _ _ arrived c.drop_named.result (case_along c.args.state.now c.args.command.now k _ e (ap plain c.in-RepoDrop.is)) (c.drop_named.ensures.ok arrived v)
 
 pub returns-in-RepoDrop-clause-fault : goal.returns-in-RepoDrop-clause-fault
-returns-in-RepoDrop-clause-fault g c = λ name arrived e v.
-    fault_along None _ _ arrived c.drop_named.result (case_along c.args.state.now c.args.command.now _ _ e (ap plain c.in-RepoDrop.is)) (c.drop_named.ensures.fault arrived v)
+returns-in-RepoDrop-clause-fault g c = λ k arrived e is v.
+    fault_along None _ _ arrived c.drop_named.result (case_along c.args.state.now c.args.command.now k _ e (ap plain c.in-RepoDrop.is)) (c.drop_named.ensures.fault arrived v)
 
 pub returns-in_default-clause-fault : goal.returns-in_default-clause-fault
-returns-in_default-clause-fault g c = λ name arrived e v. absurd (is_drop c.args.command.now name e c.in_default.not-RepoDrop)
+returns-in_default-clause-fault g c = λ k arrived e is v. absurd (is_drop c.args.command.now k e is c.in_default.not-RepoDrop)

@@ -5,12 +5,12 @@ use Rattle.local_repo.proofs.CaseLemmas.{case_along, is_rename}
 use Rattle.local_repo.proofs.naming.rename.Goals as goal
 
 pub returns-in-RepoRename-clause-ok : goal.returns-in-RepoRename-clause-ok
-returns-in-RepoRename-clause-ok g c = λ before after arrived e v.
-    ok_along None c.args.state.now _ _ arrived c.rename_named.result (case_along c.args.state.now c.args.command.now _ _ e (ap plain c.in-RepoRename.is)) (c.rename_named.ensures.ok arrived v)
+returns-in-RepoRename-clause-ok g c = λ k arrived e is v.
+    ok_along None c.args.state.now _ _ arrived c.rename_named.result (case_along c.args.state.now c.args.command.now k _ e (ap plain c.in-RepoRename.is)) (c.rename_named.ensures.ok arrived v)
 
 pub returns-in-RepoRename-clause-fault : goal.returns-in-RepoRename-clause-fault
-returns-in-RepoRename-clause-fault g c = λ before after arrived e v.
-    fault_along None _ _ arrived c.rename_named.result (case_along c.args.state.now c.args.command.now _ _ e (ap plain c.in-RepoRename.is)) (c.rename_named.ensures.fault arrived v)
+returns-in-RepoRename-clause-fault g c = λ k arrived e is v.
+    fault_along None _ _ arrived c.rename_named.result (case_along c.args.state.now c.args.command.now k _ e (ap plain c.in-RepoRename.is)) (c.rename_named.ensures.fault arrived v)
 
 pub returns-in_default-clause-fault : goal.returns-in_default-clause-fault
-returns-in_default-clause-fault g c = λ before after arrived e v. absurd (is_rename c.args.command.now before after e c.in_default.not-RepoRename)
+returns-in_default-clause-fault g c = λ k arrived e is v. absurd (is_rename c.args.command.now k e is c.in_default.not-RepoRename)

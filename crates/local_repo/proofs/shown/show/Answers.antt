@@ -5,12 +5,12 @@ use Rattle.local_repo.proofs.CaseLemmas.{case_along, is_show}
 use Rattle.local_repo.proofs.shown.show.Goals as goal
 
 pub returns-in-RepoShow-clause-ok : goal.returns-in-RepoShow-clause-ok
-returns-in-RepoShow-clause-ok g c = λ packages name arrived e v.
-    ok_along None c.args.state.now _ _ arrived c.show_named.result (case_along c.args.state.now c.args.command.now _ _ e (ap plain c.in-RepoShow.is)) (c.show_named.ensures.ok arrived v)
+returns-in-RepoShow-clause-ok g c = λ k arrived e is v.
+    ok_along None c.args.state.now _ _ arrived c.show_named.result (case_along c.args.state.now c.args.command.now k _ e (ap plain c.in-RepoShow.is)) (c.show_named.ensures.ok arrived v)
 
 pub returns-in-RepoShow-clause-fault : goal.returns-in-RepoShow-clause-fault
-returns-in-RepoShow-clause-fault g c = λ packages name arrived e v.
-    fault_along None _ _ arrived c.show_named.result (case_along c.args.state.now c.args.command.now _ _ e (ap plain c.in-RepoShow.is)) (c.show_named.ensures.fault arrived v)
+returns-in-RepoShow-clause-fault g c = λ k arrived e is v.
+    fault_along None _ _ arrived c.show_named.result (case_along c.args.state.now c.args.command.now k _ e (ap plain c.in-RepoShow.is)) (c.show_named.ensures.fault arrived v)
 
 pub returns-in_default-clause-fault : goal.returns-in_default-clause-fault
-returns-in_default-clause-fault g c = λ packages name arrived e v. absurd (is_show c.args.command.now packages name e c.in_default.not-RepoShow)
+returns-in_default-clause-fault g c = λ k arrived e is v. absurd (is_show c.args.command.now k e is c.in_default.not-RepoShow)

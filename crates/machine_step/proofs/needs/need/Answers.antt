@@ -7,7 +7,7 @@ use Rattle.step_model.specs.Case.{Case}
 use Rattle.step_model.specs.Refuses.{Refuses}
 use Rattle.step_model.proofs.RefusalLemmas.{refuses_first}
 use Rattle.machine_step.specs.Step.{case_of}
-use Rattle.machine_step.proofs.FamilyLemmas.{is_repo, is_other, case_of_repo, case_of_other, case_of_rest}
+use Rattle.machine_step.proofs.FamilyLemmas.{is_repo, is_snapshot, is_other, case_of_repo, case_of_snapshot, case_of_other, case_of_rest}
 use Rattle.machine_step.proofs.needs.need.Goals as goal
 
 pub returns-in-Repo-clause-ok : goal.returns-in-Repo-clause-ok
@@ -20,6 +20,17 @@ returns-in-Repo-clause-fault g c = λ now v.
     let r = is_repo (plain c.args.command.now) (sym c.family_of.ensures ∙ c.in-Repo.is) in
     subst (λ (k : Case). IfErr c.needs.result (FaultIs (λ refusal. Told (g.M.Patterns.refusals c.args.patterns.now) (g.M.Patterns.refusals c.needs.new.patterns) (g.M.Patterns.refused c.needs.new.patterns) (λ large. Refuses large k (Some refusal)))))
     (case_of_repo now c.args.state.now (plain c.args.command.now) r.0 r.1) (c.needs.ensures.fault r.0 r.1 v)
+
+pub returns-in-Snapshot-clause-ok : goal.returns-in-Snapshot-clause-ok
+returns-in-Snapshot-clause-ok g c = λ now v.
+    let r = is_snapshot (plain c.args.command.now) (sym c.family_of.ensures ∙ c.in-Snapshot.is) in
+    subst (λ (k : Case). IfOk c.needs-in-Snapshot.result (IsWanted None k)) (case_of_snapshot now c.args.state.now (plain c.args.command.now) r.0 r.1) (c.needs-in-Snapshot.ensures.ok r.0 r.1 v)
+
+pub returns-in-Snapshot-clause-fault : goal.returns-in-Snapshot-clause-fault
+returns-in-Snapshot-clause-fault g c = λ now v.
+    let r = is_snapshot (plain c.args.command.now) (sym c.family_of.ensures ∙ c.in-Snapshot.is) in
+    subst (λ (k : Case). IfErr c.needs-in-Snapshot.result (FaultIs (λ refusal. Told (g.M.Patterns.refusals c.args.patterns.now) (g.M.Patterns.refusals c.needs-in-Snapshot.new.patterns) (g.M.Patterns.refused c.needs-in-Snapshot.new.patterns) (λ large. Refuses large k (Some refusal)))))
+    (case_of_snapshot now c.args.state.now (plain c.args.command.now) r.0 r.1) (c.needs-in-Snapshot.ensures.fault r.0 r.1 v)
 
 pub returns-in-Other-clause-ok : goal.returns-in-Other-clause-ok
 returns-in-Other-clause-ok g c = λ now v.
@@ -34,5 +45,5 @@ returns-in-Other-clause-fault g c = λ now v.
 
 pub returns-in_default-clause-fault : goal.returns-in_default-clause-fault
 returns-in_default-clause-fault g c = λ now v.
-    let none = case_of_rest now c.args.state.now (plain c.args.command.now) (λ e. c.in_default.not-Repo (c.family_of.ensures ∙ e)) (λ e. c.in_default.not-Other (c.family_of.ensures ∙ e)) in
+    let none = case_of_rest now c.args.state.now (plain c.args.command.now) (λ e. c.in_default.not-Repo (c.family_of.ensures ∙ e)) (λ e. c.in_default.not-Snapshot (c.family_of.ensures ∙ e)) (λ e. c.in_default.not-Other (c.family_of.ensures ∙ e)) in
     (None, tt, refuses_first None _ NotBuilt (ap (λ (k : Case). k.early) none))

@@ -7,9 +7,9 @@ use Rattle.step_model.specs.Answers.{came, ComesTo, FaultIs, IsRefusedFor, Told}
 use Rattle.step_model.specs.Case.{Case}
 use Rattle.step_model.specs.Refuses.{reading}
 use Rattle.step_model.proofs.RefusalLemmas.{refuses_first}
-use Rattle.local_repo.specs.Cases as repos
+use Rattle.repo_packages.specs.PackageCases as repos
 use Rattle.machine_step.specs.Step.{case_of, giving, read_for}
-use Rattle.machine_step.proofs.FamilyLemmas.{is_repo, is_other, case_of_repo, case_of_other, case_of_rest, arrives_repo}
+use Rattle.machine_step.proofs.FamilyLemmas.{is_repo, is_snapshot, is_other, case_of_repo, case_of_snapshot, case_of_other, case_of_rest, arrives_repo}
 use Rattle.step_model.proofs.FaultLemmas.{ok_told}
 use Rattle.machine_step.proofs.steps.change_of.Goals as goal
 
@@ -36,6 +36,20 @@ returns-in-Repo-clause-new g c = λ now inbox large v may.
     let is = case_of_repo now s (plain c.args.command.now) r.0 r.1 in
     c.change.ensures.new r.0 inbox r.1 v (subst (λ (k : Case). repos.MayArrive inbox s (reading k) c.args.arrived.now) (sym is) (arrives_repo (giving inbox now) large s (read_for now s (plain c.args.command.now)) c.args.arrived.now may))
 
+pub returns-in-Snapshot-clause-ok : goal.returns-in-Snapshot-clause-ok
+returns-in-Snapshot-clause-ok g c = λ now inbox large v may.
+    let s = c.args.state.now in
+    let r = is_snapshot (plain c.args.command.now) (sym c.family_of.ensures ∙ c.in-Snapshot.is) in
+    ok_told _ _ _ s _ c.args.arrived.now c.change-in-Snapshot.result
+    (subst (λ (k : Case). IfOk c.change-in-Snapshot.result (λ change. ComesTo None k c.args.arrived.now (came s change))) (case_of_snapshot now s (plain c.args.command.now) r.0 r.1) (c.change-in-Snapshot.ensures.ok r.0 r.1 c.args.arrived.now v))
+
+pub returns-in-Snapshot-clause-fault : goal.returns-in-Snapshot-clause-fault
+returns-in-Snapshot-clause-fault g c = λ now inbox large v may.
+    let s = c.args.state.now in
+    let r = is_snapshot (plain c.args.command.now) (sym c.family_of.ensures ∙ c.in-Snapshot.is) in
+    subst (λ (k : Case). IfErr c.change-in-Snapshot.result (FaultIs (λ refusal. Told (g.M.Patterns.refusals c.args.patterns.now) (g.M.Patterns.refusals c.change-in-Snapshot.new.patterns) (g.M.Patterns.refused c.change-in-Snapshot.new.patterns) (λ large. IsRefusedFor large k c.args.arrived.now refusal))))
+    (case_of_snapshot now s (plain c.args.command.now) r.0 r.1) (c.change-in-Snapshot.ensures.fault r.0 r.1 c.args.arrived.now v)
+
 pub returns-in-Other-clause-ok : goal.returns-in-Other-clause-ok
 returns-in-Other-clause-ok g c = λ now inbox large v may.
     let s = c.args.state.now in
@@ -52,5 +66,5 @@ returns-in-Other-clause-fault g c = λ now inbox large v may.
 
 pub returns-in_default-clause-fault : goal.returns-in_default-clause-fault
 returns-in_default-clause-fault g c = λ now inbox large v may.
-    let none = case_of_rest now c.args.state.now (plain c.args.command.now) (λ e. c.in_default.not-Repo (c.family_of.ensures ∙ e)) (λ e. c.in_default.not-Other (c.family_of.ensures ∙ e)) in
+    let none = case_of_rest now c.args.state.now (plain c.args.command.now) (λ e. c.in_default.not-Repo (c.family_of.ensures ∙ e)) (λ e. c.in_default.not-Snapshot (c.family_of.ensures ∙ e)) (λ e. c.in_default.not-Other (c.family_of.ensures ∙ e)) in
     (None, tt, inl (refuses_first None _ NotBuilt (ap (λ (k : Case). k.early) none)))

@@ -1,6 +1,0 @@
-use Rattle.std.proofs.Common.{◌≡◌, map, take}
-use Rattle.local_repo.specs.Fits.{with_more}
-use Rattle.local_repo.proofs.addition.all_with_more.Given as goal
-
-abbrev pub invariant-loop-repo : goal.invariant-loop-repo
-invariant-loop-repo l = l.made.items ≡ map (with_more l.name l.list) (take l.repo-index l.repos)

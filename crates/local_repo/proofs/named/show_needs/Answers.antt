@@ -1,0 +1,15 @@
+use Rattle.std.proofs.Common.{None}
+use Rattle.step_model.proofs.FaultLemmas.{at_exit, fault_refuses}
+use Rattle.local_repo.specs.Cases.{repo_case}
+use Rattle.local_repo.proofs.CaseLemmas.{nothing_wanted}
+use Rattle.local_repo.proofs.named.show_needs.Goals as goal
+
+pub returns-in_err-named_repo-clause-fault : goal.returns-in_err-named_repo-clause-fault
+unfolding repo_case
+returns-in_err-named_repo-clause-fault c = λ v.
+    let fault = c.in_err-named_repo.field-0.0 in
+    at_exit c.from_residual.result fault _ c.from_residual.ensures.1 (fault_refuses None _ fault (c.in_err-named_repo.ensures.fault v))
+
+pub returns-clause-ok : goal.returns-clause-ok
+unfolding repo_case
+returns-clause-ok c = λ v. nothing_wanted _ _ (c.in_ok-named_repo.ensures.good v)

@@ -1,0 +1,74 @@
+//! What each command on packages is refused for before its queries and before anything is read.
+ghost use Rattle.std.specs.Prelude.{◌≡◌, List, ℕ, false, IfOk, IfErr, OnOk, None};
+ghost use Rattle.command_table.specs.Plain.{follows, plain_follow};
+ghost use Rattle.machine_state.specs.State.{Valid};
+ghost use Rattle.step_model.specs.Answers.{IsFirst};
+ghost use Rattle.step_model.specs.Case.{Came};
+ghost use Rattle.repo_packages.specs.PackageCases.{addition_case, bad_pair, pair_case, Finds};
+
+use crate::checks::there;
+use ap_text::{Name, SafePath};
+use command_table::{Follow, is_following};
+use control_stanza::Text;
+use machine_state::{ChangeFault, Refusal, Repo, State};
+use std::alloc::Global;
+use step_model::{folder_of, name_of};
+
+/// The repository and the folder of an addition.
+#[tactic(auto, unfolding(crate::specs::PackageCases::addition_case))]
+pub(crate) fn addition_early(
+    alloc: Global,
+    state: &State,
+    name: &Text,
+    folder: &Text,
+) -> Result<(Name, SafePath), ChangeFault>
+    ensures good { Valid state.now → OnOk result ((addition_case state.now name.now folder.now).early ≡ None) }
+    ensures fault { Valid state.now → IfErr result (IsFirst (addition_case state.now name.now folder.now).early) }
+    ensures name { IfOk result (λ read. read.0 ≡ name.now) }
+    ensures folder { IfOk result (λ read. read.1 ≡ folder.now) }
+{
+    let name = name_of(alloc, name)?;
+    let folder = folder_of(alloc, folder)?;
+    there(alloc, state, &name)?;
+    Ok((name, folder))
+}
+
+/// The two repositories that the texts of a copy or a move name: both are names before one is looked for.
+fn named_pair<'a>(
+    alloc: Global,
+    state: &'a State,
+    source: &Text,
+    destination: &Text,
+) -> Result<(&'a Repo, &'a Repo), ChangeFault>
+    ensures good { Valid state.now → OnOk result (bad_pair state.now source.now destination.now ≡ None) }
+    ensures fault { Valid state.now → IfErr result (IsFirst (bad_pair state.now source.now destination.now)) }
+    ensures source { Valid state.now → IfOk result (λ pair. Finds state.now source.now pair.0.now) }
+    ensures destination { Valid state.now → IfOk result (λ pair. Finds state.now destination.now pair.1.now) }
+{
+    let from = name_of(alloc, source)?;
+    let to = name_of(alloc, destination)?;
+    let source = there(alloc, state, &from)?;
+    let destination = there(alloc, state, &to)?;
+    Ok((source, destination))
+}
+
+/// The two repositories of a copy or a move, for which no flag of following may be written yet.
+pub(crate) fn pair_early<'a>(
+    alloc: Global,
+    state: &'a State,
+    with_deps: &Option<bool>,
+    follow: &Follow,
+    source: &Text,
+    destination: &Text,
+) -> Result<(&'a Repo, &'a Repo), ChangeFault>
+    ensures plain { OnOk result (follows with_deps.now (plain_follow follow.now) ≡ false) }
+    ensures good { Valid state.now → OnOk result (bad_pair state.now source.now destination.now ≡ None) }
+    ensures fault { (queries : List (List ℕ)) (comes : Came) → Valid state.now → IfErr result (IsFirst (pair_case state.now with_deps.now (plain_follow follow.now) source.now destination.now queries comes).early) }
+    ensures source { Valid state.now → IfOk result (λ pair. Finds state.now source.now pair.0.now) }
+    ensures destination { Valid state.now → IfOk result (λ pair. Finds state.now destination.now pair.1.now) }
+{
+    if is_following(with_deps, follow) {
+        return Err(ChangeFault::Refused(Refusal::NotBuilt));
+    }
+    named_pair(alloc, state, source, destination)
+}

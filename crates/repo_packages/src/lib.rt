@@ -1,0 +1,19 @@
+//! The commands that give local repositories other packages: what is added, taken out, copied and moved.
+#![tactic(auto)]
+
+mod addition;
+mod checks;
+mod early;
+mod laws;
+mod listing;
+mod needs;
+mod pairs;
+mod removal;
+mod replies;
+
+pub use addition::add_packages;
+pub use checks::{named_repo, there};
+pub use laws::package_cases_are_lawful;
+pub use needs::{addition_needs, pair_needs, removal_needs};
+pub use pairs::{copy_packages, move_packages};
+pub use removal::remove_packages;
