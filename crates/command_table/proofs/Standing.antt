@@ -2,7 +2,7 @@
 use Rattle.std.proofs.Common.{◌≡◌, ℕ, ◌+◌, ◌<◌, Bool, true, false, ◌&&◌, List, [], ◌∷◌, ◌++◌, length, take, get_or, sym, ap, ◌∙◌, append_assoc, append-nil}
 use Rattle.std.proofs.Math.Bool.{and_assoc, and-true}
 use Rattle.std.proofs.lemmas.List.{take_more}
-use Rattle.command_table.specs.Plain.{Word, Words}
+use Rattle.command_value.specs.Plain.{Word, Words}
 use Rattle.command_table.specs.Table.{FlagRule}
 use Rattle.command_table.specs.Flags.{flag_stands, flags_stand_after, flags_stand}
 

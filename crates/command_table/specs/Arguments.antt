@@ -3,7 +3,7 @@ use Rattle.std.specs.Prelude.{◌≡◌, ℕ, ◌+◌, ◌<◌, ◌≤◌, nat_l
 use Rattle.std.specs.Str.{bytes_eq}
 use Rattle.command_table.specs.declared.table.Arguments.{Arguments}
 use Rattle.command_table.specs.declared.table.Arguments.TheVariants.{Between, AtLeast, Apart, Origin, Sources, Switched}
-use Rattle.command_table.specs.Plain.{Words}
+use Rattle.command_value.specs.Plain.{Words}
 
 -- the destination is the source
 abbrev pub is_onto_itself : Words → Bool

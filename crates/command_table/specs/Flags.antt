@@ -5,7 +5,7 @@ use Rattle.std.specs.Set.{distinct_count}
 use Rattle.std.specs.Str.{bytes_eq}
 use Rattle.command_table.specs.declared.table.Form.{Form}
 use Rattle.command_table.specs.declared.table.Form.TheVariants.{Switch, Text, Texts}
-use Rattle.command_table.specs.Plain.{Word, Words}
+use Rattle.command_value.specs.Plain.{Word, Words}
 use Rattle.command_table.specs.Table.{FlagRule}
 
 -- a dash and more; the mark `--` is none

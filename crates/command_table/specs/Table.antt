@@ -14,7 +14,7 @@ use Rattle.command_table.specs.declared.table.PublishVerb.TheVariants as publish
 use Rattle.command_table.specs.declared.table.OtherVerb.TheVariants as other
 use Rattle.command_table.specs.declared.table.Flag.{Flag}
 use Rattle.command_table.specs.declared.table.Row.{Row}
-use Rattle.command_table.specs.Plain.{Word}
+use Rattle.command_value.specs.Plain.{Word}
 
 -- a flag that a command takes
 pub record FlagRule : Type 0 where

@@ -10,7 +10,7 @@ use Rattle.command_table.specs.declared.table.Arguments.{Arguments}
 use Rattle.command_table.specs.declared.table.Arguments.TheVariants.{Between, AtLeast, Apart, Origin, Sources, Switched}
 use Rattle.command_table.specs.Arguments.{arguments_begin, is_onto_itself, begins_origin, is_source_kind}
 use Rattle.command_table.specs.Flags.{is_flag, flags_stand, flags_stand_after}
-use Rattle.command_table.specs.Plain.{Word, Words, PlainCommand}
+use Rattle.command_value.specs.Plain.{Word, Words, PlainCommand}
 use Rattle.command_words.specs.Spelled.{command_of, components_len, flags_of, after_flags, mark_len, arguments_of, row_begins, row_ends, spelled_by, begun_by, begins, is_command}
 use Rattle.command_table.specs.Table.{FlagRule, RowRule, table, has_key}
 use Rattle.command_table.proofs.Standing.{flags_stand_after-append, both}

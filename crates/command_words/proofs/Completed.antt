@@ -14,7 +14,7 @@ use Rattle.command_table.specs.declared.table.Arguments.TheVariants.{Between, At
 use Rattle.command_table.specs.Arguments.{arguments_begin, arguments_end, is_onto_itself, begins_origin}
 use Rattle.command_words.specs.Commands.{Begins}
 use Rattle.command_table.specs.Flags.{is_flag, flags_stand}
-use Rattle.command_table.specs.Plain.{Word, Words, PlainCommand}
+use Rattle.command_value.specs.Plain.{Word, Words, PlainCommand}
 use Rattle.command_words.specs.Spelled.{command_of, components_len, flags_of, after_flags, mark_len, arguments_of, row_begins, row_ends, spelled_by, begun_by, begins, is_command}
 use Rattle.command_table.specs.Table.{RowRule, table, has_key}
 use Rattle.command_words.proofs.Fronts.{arguments_begin-nil, mark_len-le}

@@ -9,7 +9,7 @@ use Rattle.std.specs.Str.{bytes_eq}
 use Rattle.command_words.specs.declared.piece.Piece.{Piece}
 use Rattle.command_words.specs.Commands.{Part, part, cut, put_before, ends_with_comma, without_last, with_first, each_spelled, listed, IsPlaceIn, IsPartFault, IsListFault}
 use Rattle.command_words.specs.Fault.{IsAt, IsCommandFault}
-use Rattle.command_table.specs.Plain.{Word, Words, PlainCommand}
+use Rattle.command_value.specs.Plain.{Word, Words, PlainCommand}
 use Rattle.command_words.specs.Spelled.{spelled, is_command}
 use Rattle.command_words.proofs.Lifted.{longest_front, unreadable}
 use Rattle.command_words.proofs.Parts.{cut-start}

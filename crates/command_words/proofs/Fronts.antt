@@ -9,7 +9,7 @@ use Rattle.std.specs.Prelude.{codes, Option}
 use Rattle.std.specs.Str.{bytes_eq}
 use Rattle.command_table.specs.declared.table.Arguments.{Arguments}
 use Rattle.command_table.specs.declared.table.Arguments.TheVariants.{Between, AtLeast, Apart, Origin, Sources, Switched}
-use Rattle.command_table.specs.Plain.{Words}
+use Rattle.command_value.specs.Plain.{Words}
 use Rattle.command_table.specs.Table.{RowRule}
 use Rattle.command_table.specs.Flags.{is_flag, flags_stand, IsLongestStanding}
 use Rattle.command_table.specs.Arguments.{arguments_begin, arguments_end, IsFirstFault, Judges}

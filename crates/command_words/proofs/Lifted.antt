@@ -9,7 +9,7 @@ use Rattle.command_words.specs.declared.fault.WordFault.{WordFault}
 use Rattle.command_words.specs.declared.fault.WordFault.TheVariants.{At, OutOfMemory}
 use Rattle.command_words.specs.Commands.{IsLongestFront}
 use Rattle.command_words.specs.Fault.{IsAt, IsRowFault, IsCommandFault}
-use Rattle.command_table.specs.Plain.{Word, Words, PlainCommand}
+use Rattle.command_value.specs.Plain.{Word, Words, PlainCommand}
 use Rattle.command_words.specs.Spelled.{command_of, flags_of, arguments_of, row_begins, row_ends, row_spells, begun_by, spelled, spelled_by, begins, is_command}
 use Rattle.command_table.specs.Table.{RowRule, table, has_key}
 use Rattle.command_words.proofs.Closed.{begins-from_command}

@@ -6,7 +6,7 @@ use Rattle.std.proofs.lemmas.Bool.{false≢true}
 use Rattle.std.proofs.lemmas.List.{take-take, take-append-drop}
 use Rattle.std.specs.Prelude.{MatchOption}
 use Rattle.command_words.specs.Commands.{Part, cut, after_task_run, IsLongestFront, is_readable, IsPartFault, IsListFault, IsUsagePlace}
-use Rattle.command_table.specs.Plain.{Words}
+use Rattle.command_value.specs.Plain.{Words}
 use Rattle.command_words.specs.Spelled.{is_command}
 
 -- ---- the longest front

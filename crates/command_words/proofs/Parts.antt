@@ -5,7 +5,7 @@ use Rattle.std.specs.Prelude.{codes}
 use Rattle.std.specs.Str.{bytes_eq}
 use Rattle.command_words.specs.Commands.{Part, cut, ends_with_comma, without_last, put_before}
 use Rattle.command_words.specs.Cutting.{Cutting, ended, with_word, one_word_more}
-use Rattle.command_table.specs.Plain.{Word, Words}
+use Rattle.command_value.specs.Plain.{Word, Words}
 
 -- the parts that have ended, and those of the rest, which the open one begins
 abbrev pub whole : Cutting → List Part → List Part

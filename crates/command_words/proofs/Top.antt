@@ -10,7 +10,7 @@ use Rattle.command_words.specs.declared.fault.WordFault.{WordFault}
 use Rattle.command_words.specs.declared.fault.WordFault.TheVariants.{At, OutOfMemory}
 use Rattle.command_words.specs.Commands.{Part, cut, with_first, each_spelled, listed, after_task_run, is_first, rest_of, single, list_or, demo_commands, is_demo_number, demonstration, demo_place, commands, Begins, IsLongestFront, is_readable, IsPlaceIn, IsListFault, IsUsagePlace}
 use Rattle.command_words.specs.Fault.{IsAt, IsCommandFault}
-use Rattle.command_table.specs.Plain.{Word, Words, PlainCommand}
+use Rattle.command_value.specs.Plain.{Word, Words, PlainCommand}
 use Rattle.command_words.specs.Spelled.{spelled, is_command, row_begins, row_ends}
 use Rattle.command_table.specs.Table.{table}
 use Rattle.command_words.proofs.Closed.{begins-from_command}

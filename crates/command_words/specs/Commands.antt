@@ -1,9 +1,9 @@
 -- The commands that the words of a command line spell.
 use Rattle.std.specs.Prelude.{◌≡◌, ℕ, ◌+◌, ◌-◌, ◌<◌, ◌≤◌, ◌==◌, ◌⊎◌, nat_le, Bool, true, false, ◌&&◌, ◌||◌, if◌then◌else◌, List, [], ◌∷◌, ◌++◌, Option, Some, None, option_map, MatchOption, is_some, length, take, slice_index, All, codes}
 use Rattle.std.specs.Str.{bytes_eq}
-use Rattle.command_table.specs.declared.command.Origin.TheVariants.{Mirror}
+use Rattle.command_value.specs.declared.command.Origin.TheVariants.{Mirror}
 use Rattle.command_words.specs.declared.piece.Piece.{Piece}
-use Rattle.command_table.specs.Plain.{Word, Words, PlainFollow, PlainCommand, of_mirror, of_snapshot, of_publish, of_other, mirror_create, mirror_update, mirror_drop, snapshot_create, snapshot_filter, snapshot_pull, snapshot_drop, publish_snapshot, publish_switch, db_cleanup}
+use Rattle.command_value.specs.Plain.{Word, Words, PlainFollow, PlainCommand, of_mirror, of_snapshot, of_publish, of_other, mirror_create, mirror_update, mirror_drop, snapshot_create, snapshot_filter, snapshot_pull, snapshot_drop, publish_snapshot, publish_switch, db_cleanup}
 use Rattle.command_words.specs.Spelled.{spelled, is_command}
 
 -- a command of a list: the index at which its first word would stand, and its words

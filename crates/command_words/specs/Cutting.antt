@@ -3,7 +3,7 @@ use Rattle.std.specs.Prelude.{ℕ, List, [], ◌∷◌, ◌++◌, map, if◌then
 use Rattle.std.specs.Str.{bytes_eq}
 use Rattle.command_words.specs.declared.piece.Cutter.{Cutter}
 use Rattle.command_words.specs.Commands.{Part, part, ends_with_comma, without_last}
-use Rattle.command_table.specs.Plain.{Word}
+use Rattle.command_value.specs.Plain.{Word}
 
 pub record Cutting : Type 0 where
   pub done : List Part

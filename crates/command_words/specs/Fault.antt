@@ -3,7 +3,7 @@ use Rattle.std.specs.Prelude.{◌≡◌, ℕ, ◌+◌}
 use Rattle.command_words.specs.declared.fault.WordFault.{WordFault}
 use Rattle.command_words.specs.declared.fault.WordFault.TheVariants.{At, OutOfMemory}
 use Rattle.command_table.specs.Arguments.{IsFirstFault}
-use Rattle.command_table.specs.Plain.{Words}
+use Rattle.command_value.specs.Plain.{Words}
 use Rattle.command_words.specs.Spelled.{row_begins, row_ends, begins, is_command}
 use Rattle.command_table.specs.Table.{RowRule}
 

@@ -2,4 +2,4 @@ pub mod Spelled
 pub mod Fault
 pub mod Commands
 pub mod Cutting
-pub use Rattle.command_table.specs.Plain
+pub use Rattle.command_value.specs.Plain

@@ -2,8 +2,8 @@
 use Rattle.std.specs.Prelude.{ℕ, ◌+◌, ◌==◌, Bool, true, false, ◌&&◌, if◌then◌else◌, [], ◌∷◌, Option, Some, None, is_some, length, take, drop, slice_index_or, slice_get, codes}
 use Rattle.std.specs.List.{find, list_any, prefix_len}
 use Rattle.std.specs.Str.{bytes_eq}
-use Rattle.command_table.specs.declared.command.Origin.{Origin}
-use Rattle.command_table.specs.declared.command.Origin.TheVariants.{Mirror, Repo, Empty}
+use Rattle.command_value.specs.declared.command.Origin.{Origin}
+use Rattle.command_value.specs.declared.command.Origin.TheVariants.{Mirror, Repo, Empty}
 use Rattle.command_table.specs.declared.table.Kind.{Kind}
 use Rattle.command_table.specs.declared.table.Kind.TheVariants as kind
 use Rattle.command_table.specs.declared.table.MirrorVerb.{MirrorVerb}
@@ -16,7 +16,7 @@ use Rattle.command_table.specs.declared.table.PublishVerb.{PublishVerb}
 use Rattle.command_table.specs.declared.table.PublishVerb.TheVariants as p
 use Rattle.command_table.specs.declared.table.OtherVerb.{OtherVerb}
 use Rattle.command_table.specs.declared.table.OtherVerb.TheVariants as o
-use Rattle.command_table.specs.Plain.{Word, Words, PlainFollow, PlainSettings, MirrorCommand, RepoCommand, SnapshotCommand, PublishCommand, OtherCommand, PlainCommand, of_mirror, of_repo, of_snapshot, of_publish, of_other, mirror_create, mirror_update, mirror_list, mirror_show, mirror_rename, mirror_drop, repo_create, repo_add, repo_list, repo_show, repo_edit, repo_remove, repo_copy, repo_move, repo_import, repo_rename, repo_drop, snapshot_create, snapshot_list, snapshot_show, snapshot_filter, snapshot_merge, snapshot_pull, snapshot_search, snapshot_rename, snapshot_drop, publish_snapshot, publish_repo, publish_list, publish_show, publish_switch, publish_update, publish_drop, package_search, package_show, db_cleanup}
+use Rattle.command_value.specs.Plain.{Word, Words, PlainFollow, PlainSettings, MirrorCommand, RepoCommand, SnapshotCommand, PublishCommand, OtherCommand, PlainCommand, of_mirror, of_repo, of_snapshot, of_publish, of_other, mirror_create, mirror_update, mirror_list, mirror_show, mirror_rename, mirror_drop, repo_create, repo_add, repo_list, repo_show, repo_edit, repo_remove, repo_copy, repo_move, repo_import, repo_rename, repo_drop, snapshot_create, snapshot_list, snapshot_show, snapshot_filter, snapshot_merge, snapshot_pull, snapshot_search, snapshot_rename, snapshot_drop, publish_snapshot, publish_repo, publish_list, publish_show, publish_switch, publish_update, publish_drop, package_search, package_show, db_cleanup}
 use Rattle.command_table.specs.Table.{RowRule, table, has_key}
 use Rattle.command_table.specs.Flags.{is_flag, flags_stand, switch_of, text_of, texts_of}
 use Rattle.command_table.specs.Arguments.{arguments_begin, arguments_end}

@@ -1,15 +1,15 @@
 //! A command, made of its flags and its arguments.
 ghost use Rattle.std.specs.Prelude.{◌≡◌, ◌+◌, ◌<◌, ◌^◌, ◌≤◌, IfOk, option_map, drop, take, slice_get, length};
-ghost use Rattle.command_table.specs.Plain.{plain, plain_follow, of_mirror, of_repo, of_snapshot, of_publish, of_other};
+ghost use Rattle.command_value.specs.Plain.{plain, plain_follow, of_mirror, of_repo, of_snapshot, of_publish, of_other};
 ghost use Rattle.command_table.specs.declared.table.PublishVerb.TheVariants as publish;
 ghost use Rattle.command_table.specs.declared.table.RepoVerb.TheVariants as repo;
 ghost use Rattle.command_table.specs.declared.table.SnapshotVerb.TheVariants as snapshot;
 ghost use Rattle.command_words.specs.Spelled.{word_at, follow_of, components_len, origin_of, mirror_command, repo_command, snapshot_command, publish_command, other_command, command_of};
 
 use command_table::{
-    Command, Follow, Kind, MirrorVerb, Origin, OtherVerb, PublishVerb, RepoVerb, SnapshotVerb,
-    copies, switch_of, text_of, texts_of,
+    Kind, MirrorVerb, OtherVerb, PublishVerb, RepoVerb, SnapshotVerb, switch_of, text_of, texts_of,
 };
+use command_value::{Command, Follow, Origin, copies};
 use control_stanza::Text;
 use std::alloc::{AllocError, Global};
 

@@ -3,14 +3,14 @@ ghost use Rattle.std.specs.Prelude.{◌≡◌, true, false, None, Some, IfOk, If
 ghost use Rattle.std.specs.Option.{option_copied};
 ghost use Rattle.command_words.specs.Commands.{after_task_run, is_first, commands, IsUsagePlace};
 ghost use Rattle.command_words.specs.Fault.{IsAt};
-ghost use Rattle.command_table.specs.Plain.{plain};
+ghost use Rattle.command_value.specs.Plain.{plain};
 
 use crate::demo::{demo_fault, read_demonstration};
 use crate::fault::WordFault;
 use crate::list::read_list;
 use crate::read::read_command;
 use crate::words::Words;
-use command_table::Command;
+use command_value::Command;
 use control_stanza::Text;
 use std::alloc::Global;
 

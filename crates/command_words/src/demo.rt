@@ -2,11 +2,11 @@
 ghost use Rattle.std.specs.Prelude.{◌≡◌, true, Some, IfOk, IfErr, map};
 ghost use Rattle.command_words.specs.Commands.{is_from_to, is_demo_number, demonstration, demo_place, rest_of, cut, listed};
 ghost use Rattle.command_words.specs.declared.fault.WordFault.TheVariants.{OutOfMemory};
-ghost use Rattle.command_table.specs.Plain.{plain};
+ghost use Rattle.command_value.specs.Plain.{plain};
 
 use crate::fault::WordFault;
 use crate::list::read_list;
-use command_table::Command;
+use command_value::Command;
 use control_stanza::Text;
 use std::alloc::{AllocError, Global};
 

@@ -11,7 +11,7 @@ mod piece;
 mod read;
 mod words;
 
-pub use command_table::{Command, Follow, Origin};
+pub use command_value::{Command, Follow, Origin};
 pub use commands::read_words;
 pub use fault::WordFault;
 pub use laws::{fronts_complete, one_usage_place};

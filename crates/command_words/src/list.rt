@@ -2,13 +2,13 @@
 ghost use Rattle.std.specs.Prelude.{◌≡◌, ◌+◌, ◌<◌, ◌^◌, Some, IfOk, IfErr, All, length, map};
 ghost use Rattle.command_words.specs.Commands.{part, cut, listed, IsPlaceIn, IsListFault};
 ghost use Rattle.command_words.specs.Fault.{IsAt};
-ghost use Rattle.command_table.specs.Plain.{plain};
+ghost use Rattle.command_value.specs.Plain.{plain};
 ghost use Rattle.command_words.specs.Spelled.{spelled};
 
 use crate::fault::WordFault;
 use crate::piece::{Piece, cut_list};
 use crate::read::read_command;
-use command_table::Command;
+use command_value::Command;
 use control_stanza::Text;
 use std::alloc::Global;
 

@@ -4,13 +4,14 @@ ghost use Rattle.command_table.specs.Arguments.{Judges};
 ghost use Rattle.command_words.specs.Spelled.{flags_of, arguments_of, mark_len, after_flags, row_begins, row_ends, row_spells, spelled};
 ghost use Rattle.command_table.specs.Table.{rule, table};
 ghost use Rattle.command_words.specs.Fault.{IsAt, IsRowFault, IsCommandFault};
-ghost use Rattle.command_table.specs.Plain.{plain};
+ghost use Rattle.command_value.specs.Plain.{plain};
 ghost use Rattle.std.specs.List.{list_any};
 ghost use Rattle.std.specs.Str.{bytes_eq};
 
 use crate::build::{command_of, components_len};
 use crate::fault::WordFault;
-use command_table::{Command, Row, arguments_fault, find_row, flags_len, is_group, standing_flags};
+use command_table::{Row, arguments_fault, find_row, flags_len, is_group, standing_flags};
+use command_value::Command;
 use control_stanza::Text;
 use std::alloc::{AllocError, Global};
 

@@ -1,7 +1,7 @@
 //! The words of a command line.
 ghost use Rattle.std.specs.Prelude.{◌≡◌, [], ◌∷◌, ◌++◌, IfOk, OnOk, OnErr};
 
-use command_table::copies;
+use command_value::copies;
 use control_stanza::Text;
 use std::alloc::{AllocError, Global};
 use std::marker::Model;

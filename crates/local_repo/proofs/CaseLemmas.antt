@@ -3,10 +3,10 @@ use Rattle.std.proofs.Common.{◌≡◌, ℕ, ◌<◌, ◌≤◌, List, length, 
 use Rattle.std.specs.Option.{is_some}
 use Rattle.std.specs.Global.{Vec}
 use Rattle.std.specs.Bool.{nat_le, if◌then◌else◌}
-use Rattle.command_table.specs.declared.command.Command.{Command}
-use Rattle.command_table.specs.declared.command.Command.TheVariants as commands
-use Rattle.command_table.specs.declared.command.Follow.{Follow}
-use Rattle.command_table.specs.Plain.{PlainCommand, RepoCommand, plain, of_repo, repo_create, repo_add, repo_list, repo_show, repo_edit, repo_remove, repo_copy, repo_move, repo_rename, repo_drop}
+use Rattle.command_value.specs.declared.command.Command.{Command}
+use Rattle.command_value.specs.declared.command.Command.TheVariants as commands
+use Rattle.command_value.specs.declared.command.Follow.{Follow}
+use Rattle.command_value.specs.Plain.{PlainCommand, RepoCommand, plain, of_repo, repo_create, repo_add, repo_list, repo_show, repo_edit, repo_remove, repo_copy, repo_move, repo_rename, repo_drop}
 use Rattle.machine_state.specs.declared.limit.Limit.TheVariants as limits
 use Rattle.machine_state.specs.declared.limit.Kind.TheVariants as kinds
 use Rattle.machine_state.specs.declared.change.Change.{Change}

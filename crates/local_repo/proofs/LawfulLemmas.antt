@@ -1,6 +1,6 @@
 -- Laws of the cases of repositories.
 use Rattle.std.proofs.Common.{◌≢◌, ℕ, List, [], Option, Some, None, Bool, false, refl, inl, inr, unwrap_or}
-use Rattle.command_table.specs.Plain.{PlainFollow, RepoCommand, repo_create, repo_add, repo_list, repo_show, repo_edit, repo_remove, repo_copy, repo_move, repo_rename, repo_drop}
+use Rattle.command_value.specs.Plain.{PlainFollow, RepoCommand, repo_create, repo_add, repo_list, repo_show, repo_edit, repo_remove, repo_copy, repo_move, repo_rename, repo_drop}
 use Rattle.machine_state.specs.declared.repo.Repo.{Repo}
 use Rattle.machine_state.specs.declared.arrived.Arrived.{Arrived}
 use Rattle.machine_state.specs.State.{Valid, repo_of}

@@ -5,7 +5,7 @@ use Rattle.std.specs.Bool.{nat_le, if◌then◌else◌}
 use Rattle.std.specs.Str.{is_utf8}
 use Rattle.std.proofs.lemmas.Str.{IsUtf8-from_is_utf8}
 use Rattle.ap_text.specs.Names.{is_component, is_name}
-use Rattle.command_table.specs.Plain.{repo_create, repo_edit, repo_rename, repo_drop}
+use Rattle.command_value.specs.Plain.{repo_create, repo_edit, repo_rename, repo_drop}
 use Rattle.package_core.specs.Card.{Card}
 use Rattle.machine_state.specs.declared.limit.Limit.TheVariants as limits
 use Rattle.machine_state.specs.declared.limit.Kind.TheVariants as kinds

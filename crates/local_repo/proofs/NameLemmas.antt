@@ -2,7 +2,7 @@
 use Rattle.std.proofs.Common.{◌≡◌, ℕ, List, Option, Some, None, Result, Ok, Err, true≢false, sym, subst, refl, ap, ◌∙◌}
 use Rattle.std.specs.Option.{is_some, option_map}
 use Rattle.std.specs.Result.{OnOk}
-use Rattle.command_table.specs.Plain.{repo_edit, repo_rename, repo_drop}
+use Rattle.command_value.specs.Plain.{repo_edit, repo_rename, repo_drop}
 use Rattle.machine_state.specs.declared.limit.Kind.TheVariants as kinds
 use Rattle.machine_state.specs.declared.repo.Repo.{Repo}
 use Rattle.machine_state.specs.declared.change.Change.{Change}

@@ -1,7 +1,7 @@
 -- The commands of local repositories: what each is in a state.
 use Rattle.std.specs.Prelude.{ℕ, false, List, length, map, Option, Some, None, Bool, nat_le, unwrap_or, if◌then◌else◌}
 use Rattle.std.specs.Option.{is_some}
-use Rattle.command_table.specs.Plain.{RepoCommand, repo_create, repo_add, repo_list, repo_show, repo_edit, repo_remove, repo_copy, repo_move, repo_rename, repo_drop}
+use Rattle.command_value.specs.Plain.{RepoCommand, repo_create, repo_add, repo_list, repo_show, repo_edit, repo_remove, repo_copy, repo_move, repo_rename, repo_drop}
 use Rattle.machine_state.specs.declared.limit.Limit.TheVariants.{Repos}
 use Rattle.machine_state.specs.declared.limit.Kind.TheVariants as kinds
 use Rattle.machine_state.specs.declared.refusal.Refusal.{Refusal}

@@ -1,5 +1,5 @@
 -- Of which verb a command of repositories is.
-use Rattle.command_table.specs.Plain.{RepoCommand, repo_create, repo_add, repo_show, repo_edit, repo_remove, repo_copy, repo_move, repo_rename, repo_drop}
+use Rattle.command_value.specs.Plain.{RepoCommand, repo_create, repo_add, repo_show, repo_edit, repo_remove, repo_copy, repo_move, repo_rename, repo_drop}
 
 abbrev pub IsCreate : RepoCommand → Type 0
 IsCreate (repo_create comment distribution component name) = Unit {0}

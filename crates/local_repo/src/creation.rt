@@ -1,6 +1,6 @@
 //! A new repository.
 ghost use Rattle.std.specs.Prelude.{◌≡◌, List, ℕ, Option, IfOk, IfErr, None, Some};
-ghost use Rattle.command_table.specs.Plain.{RepoCommand, plain, of_repo, repo_create};
+ghost use Rattle.command_value.specs.Plain.{RepoCommand, plain, of_repo, repo_create};
 ghost use Rattle.machine_state.specs.Ascending.{put};
 ghost use Rattle.machine_state.specs.State.{Valid, repo_cmp};
 ghost use Rattle.machine_state.specs.declared.arrived.Arrived.{Arrived};
@@ -13,7 +13,7 @@ ghost use Rattle.local_repo.specs.Settings.{bad_settings, bare_repo as bare, edi
 use crate::early::create_early;
 use crate::settings::edited;
 use ap_text::Name;
-use command_table::Command;
+use command_value::Command;
 use control_stanza::Text;
 use machine_state::{Change, ChangeFault, Limit, Refusal, Repo, State, put_named};
 use package_list::PackageList;

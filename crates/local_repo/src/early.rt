@@ -1,6 +1,6 @@
 //! What each command of repositories is refused for before anything is read.
 ghost use Rattle.std.specs.Prelude.{◌≡◌, IfOk, IfErr, OnOk, None, Some};
-ghost use Rattle.command_table.specs.Plain.{repo_create, repo_edit, repo_rename, repo_drop};
+ghost use Rattle.command_value.specs.Plain.{repo_create, repo_edit, repo_rename, repo_drop};
 ghost use Rattle.machine_state.specs.State.{Valid, repo_of};
 ghost use Rattle.step_model.specs.Answers.{IsFirst};
 ghost use Rattle.local_repo.specs.Cases.{repo_case};

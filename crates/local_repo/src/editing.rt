@@ -1,6 +1,6 @@
 //! A repository with other settings.
 ghost use Rattle.std.specs.Prelude.{◌≡◌, List, ℕ, Option, IfOk, IfErr, None, Some};
-ghost use Rattle.command_table.specs.Plain.{RepoCommand, plain, of_repo, repo_edit};
+ghost use Rattle.command_value.specs.Plain.{RepoCommand, plain, of_repo, repo_edit};
 ghost use Rattle.machine_state.specs.State.{Valid, repo_of};
 ghost use Rattle.machine_state.specs.declared.arrived.Arrived.{Arrived};
 ghost use Rattle.step_model.specs.Answers.{came, ChangesTo, FaultIs, IsMemory, IsNew, IsRefusedFor};
@@ -14,7 +14,7 @@ ghost use Rattle.local_repo.specs.Settings.{edited as edited_from};
 use crate::early::edit_early;
 use crate::replies::repo_edited;
 use crate::settings::{edited, is_same};
-use command_table::Command;
+use command_value::Command;
 use control_stanza::Text;
 use machine_state::{Change, ChangeFault, Refusal, Repo, State, set_named};
 use query_eval::Patterns;

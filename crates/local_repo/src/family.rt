@@ -1,7 +1,7 @@
 //! The commands of local repositories, by their verbs.
 ghost use Rattle.std.specs.Prelude.{◌≡◌, ◌≤◌, IfOk, IfErr, None, Option};
 ghost use Rattle.ap_host.specs.Disk.{Files};
-ghost use Rattle.command_table.specs.Plain.{RepoCommand, plain, of_repo};
+ghost use Rattle.command_value.specs.Plain.{RepoCommand, plain, of_repo};
 ghost use Rattle.machine_state.specs.State.{Valid};
 ghost use Rattle.step_model.specs.Answers.{ChangesBy, IsNew, IsWanted, KeepsBy, RefusedBy, RefusesBy};
 ghost use Rattle.repo_packages.specs.PackageCases.{ArrivesFor};
@@ -13,7 +13,7 @@ use crate::named::named_needs;
 use crate::naming::{drop, rename};
 use crate::packages::{copy, remove, taken, transfer};
 use crate::shown::{list, show};
-use command_table::Command;
+use command_value::Command;
 use machine_state::{Arrived, Change, ChangeFault, Refusal, State};
 use query_eval::Patterns;
 use repo_packages::{addition_needs, pair_needs, removal_needs};

@@ -1,5 +1,5 @@
 //! The law of the commands of repositories.
-ghost use Rattle.command_table.specs.Plain.{RepoCommand};
+ghost use Rattle.command_value.specs.Plain.{RepoCommand};
 ghost use Rattle.machine_state.specs.Values.{StateView};
 ghost use Rattle.step_model.specs.Lawful.{CommandLaw};
 ghost use Rattle.step_model.specs.Refuses.{IsReadable, reading};

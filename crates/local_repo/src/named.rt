@@ -1,6 +1,6 @@
 //! What the commands by names and settings are refused for. None of them reads anything.
 ghost use Rattle.std.specs.Prelude.{◌≡◌, IfOk, IfErr, None, Some};
-ghost use Rattle.command_table.specs.Plain.{RepoCommand, plain, of_repo, repo_create, repo_show, repo_edit, repo_rename, repo_drop};
+ghost use Rattle.command_value.specs.Plain.{RepoCommand, plain, of_repo, repo_create, repo_show, repo_edit, repo_rename, repo_drop};
 ghost use Rattle.machine_state.specs.State.{Valid};
 ghost use Rattle.step_model.specs.Answers.{FaultIs, IsWanted};
 ghost use Rattle.step_model.specs.Refuses.{Refuses};
@@ -8,7 +8,7 @@ ghost use Rattle.local_repo.specs.Cases.{repo_case};
 ghost use Rattle.local_repo.specs.Verbs.{IsNamed};
 
 use crate::early::{create_early, drop_early, edit_early, rename_early};
-use command_table::Command;
+use command_value::Command;
 use control_stanza::Text;
 use machine_state::{ChangeFault, Refusal, State};
 use repo_packages::named_repo;

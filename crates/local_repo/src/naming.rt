@@ -1,6 +1,6 @@
 //! Repositories that have another name, or are no more.
 ghost use Rattle.std.specs.Prelude.{◌≡◌, List, ℕ, IfOk, IfErr, OnOk, None};
-ghost use Rattle.command_table.specs.Plain.{RepoCommand, plain, of_repo, repo_rename, repo_drop};
+ghost use Rattle.command_value.specs.Plain.{RepoCommand, plain, of_repo, repo_rename, repo_drop};
 ghost use Rattle.machine_state.specs.Ascending.{IsAscending};
 ghost use Rattle.machine_state.specs.Named.{dropped, renamed};
 ghost use Rattle.machine_state.specs.State.{Valid, repo_cmp, repo_name};
@@ -12,7 +12,7 @@ ghost use Rattle.local_repo.specs.Verbs.{IsRename, IsDrop};
 use crate::early::{drop_early, rename_early};
 use crate::replies::{repo_dropped, repo_renamed};
 use ap_text::Name;
-use command_table::Command;
+use command_value::Command;
 use control_stanza::Text;
 use machine_state::{
     Change, ChangeFault, Kind, Refusal, Repo, State, put_named, rename_sources, take_named,

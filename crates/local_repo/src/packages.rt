@@ -1,7 +1,7 @@
 //! The commands on packages, by their verbs.
 ghost use Rattle.std.specs.Prelude.{◌≡◌, ◌≤◌, Option, IfOk, IfErr, None};
 ghost use Rattle.ap_host.specs.Disk.{Files};
-ghost use Rattle.command_table.specs.Plain.{RepoCommand, plain, of_repo};
+ghost use Rattle.command_value.specs.Plain.{RepoCommand, plain, of_repo};
 ghost use Rattle.machine_state.specs.State.{Valid};
 ghost use Rattle.machine_state.specs.declared.arrived.Arrived.{Arrived as ArrivedOf};
 ghost use Rattle.step_model.specs.Answers.{ChangesTo, FaultIs, IsNew, IsRefusedFor, KeepsBy, RefusedBy};
@@ -9,7 +9,7 @@ ghost use Rattle.repo_packages.specs.PackageCases.{ArrivesFor};
 ghost use Rattle.local_repo.specs.Cases.{repo_case};
 ghost use Rattle.local_repo.specs.Verbs.{IsAdd, IsRemove, IsCopy, IsMove};
 
-use command_table::Command;
+use command_value::Command;
 use machine_state::{Arrived, Change, ChangeFault, Refusal, State};
 use query_eval::Patterns;
 use repo_packages::{add_packages, copy_packages, move_packages, remove_packages};

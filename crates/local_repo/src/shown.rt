@@ -1,13 +1,13 @@
 //! Repositories that are listed and shown.
 ghost use Rattle.std.specs.Prelude.{◌≡◌, List, ℕ, Bool, Option, IfOk, IfErr, None};
-ghost use Rattle.command_table.specs.Plain.{RepoCommand, plain, of_repo, repo_list as listed, repo_show as show_of};
+ghost use Rattle.command_value.specs.Plain.{RepoCommand, plain, of_repo, repo_list as listed, repo_show as show_of};
 ghost use Rattle.machine_state.specs.State.{Valid};
 ghost use Rattle.machine_state.specs.declared.arrived.Arrived.{Arrived};
 ghost use Rattle.step_model.specs.Answers.{ChangesTo, FaultIs, IsMemory, IsNew, IsRefusedFor};
 ghost use Rattle.local_repo.specs.Cases.{repo_case};
 ghost use Rattle.local_repo.specs.Verbs.{IsShow};
 
-use command_table::Command;
+use command_value::Command;
 use control_stanza::Text;
 use machine_state::{Change, ChangeFault, Refusal, State};
 use query_eval::Patterns;

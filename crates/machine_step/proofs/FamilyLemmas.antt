@@ -1,7 +1,7 @@
 -- What a command is, by its family.
 use Rattle.std.proofs.Common.{◌≡◌, ℕ, ℤ, List, Option, Some, refl, sym, ap, ◌∙◌}
-use Rattle.command_table.specs.declared.command.Command.{Command}
-use Rattle.command_table.specs.declared.command.Command.TheVariants as commands
+use Rattle.command_value.specs.declared.command.Command.{Command}
+use Rattle.command_value.specs.declared.command.Command.TheVariants as commands
 use Rattle.command_words.specs.Plain.{PlainCommand, RepoCommand, SnapshotCommand, OtherCommand, plain, of_mirror, of_repo, of_snapshot, of_publish, of_other, package_search, package_show}
 use Rattle.machine_state.specs.declared.change.ChangeFault.TheVariants as faults
 use Rattle.machine_state.specs.declared.refusal.Refusal.{Refusal}

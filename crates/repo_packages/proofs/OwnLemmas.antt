@@ -4,7 +4,7 @@ use Rattle.std.specs.List.{flat_map}
 use Rattle.std.specs.Option.{is_some}
 use Rattle.std.specs.Bool.{if◌then◌else◌}
 use Rattle.std.proofs.lemmas.List.{length-append}
-use Rattle.command_table.specs.Plain.{PlainFollow, follows}
+use Rattle.command_value.specs.Plain.{PlainFollow, follows}
 use Rattle.package_core.specs.Card.{Card}
 use Rattle.machine_state.specs.declared.limit.Kind.TheVariants as kinds
 use Rattle.machine_state.specs.declared.refusal.Refusal.TheVariants.{Unknown}

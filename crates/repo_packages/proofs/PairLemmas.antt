@@ -13,7 +13,7 @@ use Rattle.package_list.specs.Answers.{append_answer}
 use Rattle.package_list.specs.Lists.{has_member, union, without}
 use Rattle.query_grammar.specs.Said.{query_of}
 use Rattle.machine_state.specs.declared.limit.Limit.TheVariants.{Packages}
-use Rattle.command_table.specs.Plain.{PlainFollow, follows}
+use Rattle.command_value.specs.Plain.{PlainFollow, follows}
 use Rattle.machine_state.specs.declared.arrived.Arrived.{Arrived}
 use Rattle.machine_state.specs.declared.change.ChangeFault.{ChangeFault}
 use Rattle.machine_state.specs.declared.refusal.Refusal.{Refusal}

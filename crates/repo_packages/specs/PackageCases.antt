@@ -6,7 +6,7 @@ use Rattle.package_core.specs.Card.{Card}
 use Rattle.package_intake.specs.Steps.{or_refused}
 use Rattle.package_list.specs.Answers.{append_answer}
 use Rattle.package_list.specs.Lists.{union, without}
-use Rattle.command_table.specs.Plain.{PlainFollow, follows}
+use Rattle.command_value.specs.Plain.{PlainFollow, follows}
 use Rattle.machine_state.specs.declared.limit.Limit.TheVariants.{Packages}
 use Rattle.machine_state.specs.declared.limit.Kind.TheVariants as kinds
 use Rattle.machine_state.specs.declared.refusal.Refusal.{Refusal}

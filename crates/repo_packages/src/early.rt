@@ -1,6 +1,6 @@
 //! What each command on packages is refused for before its queries and before anything is read.
 ghost use Rattle.std.specs.Prelude.{◌≡◌, List, ℕ, false, IfOk, IfErr, OnOk, None};
-ghost use Rattle.command_table.specs.Plain.{follows, plain_follow};
+ghost use Rattle.command_value.specs.Plain.{follows, plain_follow};
 ghost use Rattle.machine_state.specs.State.{Valid};
 ghost use Rattle.step_model.specs.Answers.{IsFirst};
 ghost use Rattle.step_model.specs.Case.{Came};
@@ -8,7 +8,7 @@ ghost use Rattle.repo_packages.specs.PackageCases.{addition_case, bad_pair, pair
 
 use crate::checks::there;
 use ap_text::{Name, SafePath};
-use command_table::{Follow, is_following};
+use command_value::{Follow, is_following};
 use control_stanza::Text;
 use machine_state::{ChangeFault, Refusal, Repo, State};
 use std::alloc::Global;

@@ -1,6 +1,6 @@
 //! The laws of the commands on packages.
 ghost use Rattle.std.specs.Prelude.{Bool, List, ℕ, Option};
-ghost use Rattle.command_table.specs.Plain.{PlainFollow};
+ghost use Rattle.command_value.specs.Plain.{PlainFollow};
 ghost use Rattle.repo_packages.specs.PackageCases.{KeepsTo, addition_case, copy_case, move_case, removal_case};
 
 use package_intake::arrivals_fit;

@@ -1,6 +1,6 @@
 //! What is to be read for the commands on packages, or why they are refused before.
 ghost use Rattle.std.specs.Prelude.{◌≤◌, Bool, Option, IfOk, IfErr, None, Some};
-ghost use Rattle.command_table.specs.Plain.{plain_follow};
+ghost use Rattle.command_value.specs.Plain.{plain_follow};
 ghost use Rattle.machine_state.specs.State.{Valid};
 ghost use Rattle.step_model.specs.Answers.{FaultIs, IsWanted, KeepsBy, RefusesBy};
 ghost use Rattle.step_model.specs.Case.{Came};
@@ -9,7 +9,7 @@ ghost use Rattle.repo_packages.specs.PackageCases.{addition_case, copy_case, mov
 
 use crate::checks::named_repo;
 use crate::early::{addition_early, pair_early};
-use command_table::Follow;
+use command_value::Follow;
 use control_stanza::Text;
 use machine_state::{ChangeFault, State};
 use query_eval::Patterns;

@@ -1,6 +1,6 @@
 //! Packages that are copied or moved from one repository to another.
 ghost use Rattle.std.specs.Prelude.{◌≡◌, ◌≤◌, ◌++◌, List, ℕ, Bool, false, length, Option, IfOk, IfErr, None};
-ghost use Rattle.command_table.specs.Plain.{plain_follow};
+ghost use Rattle.command_value.specs.Plain.{plain_follow};
 ghost use Rattle.machine_state.specs.State.{Valid};
 ghost use Rattle.machine_state.specs.declared.arrived.Arrived.{Arrived};
 ghost use Rattle.package_core.specs.Card.{Card};
@@ -13,7 +13,7 @@ ghost use Rattle.repo_packages.specs.PackageReplies.{dry_run_of, repo_removed as
 use crate::early::pair_early;
 use crate::listing::{appended, listed, set_list};
 use crate::replies::{both, dry_run_reply, repo_removed};
-use command_table::Follow;
+use command_value::Follow;
 use control_stanza::Text;
 use machine_state::{Change, ChangeFault, Repo, State};
 use package_list::PackageList;

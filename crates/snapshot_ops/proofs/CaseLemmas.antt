@@ -3,12 +3,12 @@ use Rattle.std.proofs.Common.{◌≡◌, ℕ, List, Option, Some, None, Bool, tr
 use Rattle.std.specs.Option.{is_some}
 use Rattle.std.specs.Global.{Vec}
 use Rattle.std.specs.Bool.{if◌then◌else◌}
-use Rattle.command_table.specs.declared.command.Command.{Command}
-use Rattle.command_table.specs.declared.command.Command.TheVariants as commands
-use Rattle.command_table.specs.declared.command.Follow.{Follow}
-use Rattle.command_table.specs.declared.command.Origin.{Origin}
-use Rattle.command_table.specs.declared.command.Origin.TheVariants as origins
-use Rattle.command_table.specs.Plain.{PlainCommand, PlainFollow, SnapshotCommand, follows, plain, of_snapshot, snapshot_create, snapshot_list, snapshot_show, snapshot_filter, snapshot_merge, snapshot_search, snapshot_rename, snapshot_drop}
+use Rattle.command_value.specs.declared.command.Command.{Command}
+use Rattle.command_value.specs.declared.command.Command.TheVariants as commands
+use Rattle.command_value.specs.declared.command.Follow.{Follow}
+use Rattle.command_value.specs.declared.command.Origin.{Origin}
+use Rattle.command_value.specs.declared.command.Origin.TheVariants as origins
+use Rattle.command_value.specs.Plain.{PlainCommand, PlainFollow, SnapshotCommand, follows, plain, of_snapshot, snapshot_create, snapshot_list, snapshot_show, snapshot_filter, snapshot_merge, snapshot_search, snapshot_rename, snapshot_drop}
 use Rattle.machine_state.specs.declared.limit.Kind.TheVariants as kinds
 use Rattle.machine_state.specs.declared.change.ChangeFault.{ChangeFault}
 use Rattle.machine_state.specs.declared.refusal.Refusal.{Refusal}

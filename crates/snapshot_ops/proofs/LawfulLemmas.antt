@@ -1,8 +1,8 @@
 -- Laws of the cases of snapshots.
 use Rattle.std.proofs.Common.{◌≡◌, ◌≢◌, ℕ, List, [], ◌∷◌, map, ap, Option, Some, None, Bool, true, false, unwrap_or, refl, sym, subst, inl, inr}
 use Rattle.std.specs.Bool.{if◌then◌else◌}
-use Rattle.command_table.specs.declared.command.Origin.TheVariants as origins
-use Rattle.command_table.specs.Plain.{PlainFollow, SnapshotCommand, follows, snapshot_create, snapshot_list, snapshot_show, snapshot_filter, snapshot_merge, snapshot_search, snapshot_rename, snapshot_drop}
+use Rattle.command_value.specs.declared.command.Origin.TheVariants as origins
+use Rattle.command_value.specs.Plain.{PlainFollow, SnapshotCommand, follows, snapshot_create, snapshot_list, snapshot_show, snapshot_filter, snapshot_merge, snapshot_search, snapshot_rename, snapshot_drop}
 use Rattle.package_core.specs.Card.{Card}
 use Rattle.machine_state.specs.declared.limit.Kind.TheVariants as kinds
 use Rattle.machine_state.specs.declared.snapshot.Snapshot.{Snapshot}

@@ -3,8 +3,8 @@ use Rattle.std.specs.Prelude.{ℕ, Bool, false, List, [], ◌∷◌, length, map
 use Rattle.std.specs.Option.{is_some}
 use Rattle.ap_host.specs.Disk.{Files}
 use Rattle.package_core.specs.Card.{Card}
-use Rattle.command_table.specs.declared.command.Origin.TheVariants as origins
-use Rattle.command_table.specs.Plain.{SnapshotCommand, PlainFollow, follows, snapshot_create, snapshot_list, snapshot_show, snapshot_filter, snapshot_merge, snapshot_search, snapshot_rename, snapshot_drop}
+use Rattle.command_value.specs.declared.command.Origin.TheVariants as origins
+use Rattle.command_value.specs.Plain.{SnapshotCommand, PlainFollow, follows, snapshot_create, snapshot_list, snapshot_show, snapshot_filter, snapshot_merge, snapshot_search, snapshot_rename, snapshot_drop}
 use Rattle.machine_state.specs.declared.limit.Kind.TheVariants as kinds
 use Rattle.machine_state.specs.declared.limit.Limit.TheVariants.{Snapshots}
 use Rattle.machine_state.specs.declared.refusal.Refusal.{Refusal}

@@ -1,7 +1,7 @@
 //! New snapshots.
 ghost use Rattle.std.specs.Prelude.{◌≡◌, List, ℕ, length, IfOk, IfErr, None, Some};
-ghost use Rattle.command_table.specs.declared.command.Origin.{Origin as OriginOf};
-ghost use Rattle.command_table.specs.Plain.{plain, of_snapshot, snapshot_create};
+ghost use Rattle.command_value.specs.declared.command.Origin.{Origin as OriginOf};
+ghost use Rattle.command_value.specs.Plain.{plain, of_snapshot, snapshot_create};
 ghost use Rattle.machine_state.specs.State.{Valid};
 ghost use Rattle.step_model.specs.Answers.{came, FaultIs, IsMemory};
 ghost use Rattle.step_model.specs.Case.{refuses};
@@ -12,7 +12,7 @@ ghost use Rattle.snapshot_ops.specs.Replies.{snapshot_created as created_line};
 use crate::early::{copy_early, empty_early};
 use crate::replies::snapshot_created;
 use ap_text::Name;
-use command_table::{Command, Origin};
+use command_value::{Command, Origin};
 use control_stanza::Text;
 use machine_state::{Change, ChangeFault, Limit, Refusal, Snapshot, State, put_named};
 use package_list::PackageList;

@@ -1,6 +1,6 @@
 //! The commands of snapshots, by their verbs.
 ghost use Rattle.std.specs.Prelude.{◌≡◌, ◌≤◌, Bool, IfOk, IfErr, None};
-ghost use Rattle.command_table.specs.Plain.{SnapshotCommand, plain, plain_follow, of_snapshot, snapshot_create};
+ghost use Rattle.command_value.specs.Plain.{SnapshotCommand, plain, plain_follow, of_snapshot, snapshot_create};
 ghost use Rattle.step_model.specs.Answers.{KeepsText};
 ghost use Rattle.snapshot_ops.specs.Answers.{IsBarred, IsBarredTold, IsDone, IsNeeded, IsOther, IsRefusedTold};
 ghost use Rattle.snapshot_ops.specs.Cases.{copy_case, drop_case, empty_case, filter_case, merge_case, rename_case, search_case, show_case, snapshot_case, without_following};
@@ -13,7 +13,7 @@ use crate::filtering::{filter, search};
 use crate::merging::merge;
 use crate::naming::{drop, rename};
 use crate::shown::{list, show};
-use command_table::{Command, Follow, Origin, is_following};
+use command_value::{Command, Follow, Origin, is_following};
 use control_stanza::Text;
 use machine_state::{Change, ChangeFault, Refusal, State};
 use query_eval::Patterns;

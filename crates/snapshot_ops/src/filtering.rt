@@ -1,13 +1,13 @@
 //! What queries choose of a snapshot.
 ghost use Rattle.std.specs.Prelude.{◌≡◌, ◌≤◌, List, ℕ, Bool, Option, IfOk, IfErr, None};
-ghost use Rattle.command_table.specs.Plain.{PlainFollow, plain, plain_follow, of_snapshot, snapshot_filter, snapshot_search};
+ghost use Rattle.command_value.specs.Plain.{PlainFollow, plain, plain_follow, of_snapshot, snapshot_filter, snapshot_search};
 ghost use Rattle.step_model.specs.Answers.{KeepsText};
 ghost use Rattle.snapshot_ops.specs.Answers.{IsDone, IsOther, IsRefusedTold};
 ghost use Rattle.snapshot_ops.specs.Cases.{filter_case, search_case, snapshot_case, without_following};
 
 use crate::creation::created;
 use crate::early::{filter_early, named_snapshot};
-use command_table::{Command, Follow, is_following};
+use command_value::{Command, Follow, is_following};
 use control_stanza::Text;
 use machine_state::{Change, ChangeFault, Refusal, State};
 use query_eval::Patterns;

@@ -1,6 +1,6 @@
 //! Snapshots that are made of several.
 ghost use Rattle.std.specs.Prelude.{◌≡◌, List, ℕ, Bool, false, Option, Ok, Err, IfOk, IfErr, OnOk, None, map, unwrap_or};
-ghost use Rattle.command_table.specs.Plain.{plain, of_snapshot, snapshot_merge};
+ghost use Rattle.command_value.specs.Plain.{plain, of_snapshot, snapshot_merge};
 ghost use Rattle.machine_state.specs.State.{Valid};
 ghost use Rattle.package_list.specs.Answers.{Answers};
 ghost use Rattle.step_model.specs.Answers.{FaultIs};
@@ -13,7 +13,7 @@ use crate::creation::created;
 use crate::early::merge_early;
 use crate::way::{Way, way_for};
 use ap_text::Name;
-use command_table::Command;
+use command_value::Command;
 use control_stanza::Text;
 use machine_state::{Change, ChangeFault, Limit, Refusal, State};
 use package_list::{ListFault, PackageList};

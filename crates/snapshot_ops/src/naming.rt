@@ -1,6 +1,6 @@
 //! Snapshots that have another name, or are no more.
 ghost use Rattle.std.specs.Prelude.{◌≡◌, List, ℕ, IfOk, OnOk, None};
-ghost use Rattle.command_table.specs.Plain.{plain, of_snapshot, snapshot_rename, snapshot_drop};
+ghost use Rattle.command_value.specs.Plain.{plain, of_snapshot, snapshot_rename, snapshot_drop};
 ghost use Rattle.machine_state.specs.Ascending.{IsAscending};
 ghost use Rattle.machine_state.specs.Named.{renamed};
 ghost use Rattle.machine_state.specs.State.{Valid, snapshot_cmp, snapshot_name};
@@ -10,7 +10,7 @@ ghost use Rattle.snapshot_ops.specs.Cases.{called, drop_case, rename_case, snaps
 use crate::early::{drop_early, rename_early};
 use crate::replies::{snapshot_dropped, snapshot_renamed};
 use ap_text::Name;
-use command_table::Command;
+use command_value::Command;
 use control_stanza::Text;
 use machine_state::{
     Change, ChangeFault, Kind, Refusal, Snapshot, State, put_named, rename_sources, take_named,

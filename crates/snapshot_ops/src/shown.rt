@@ -1,12 +1,12 @@
 //! Snapshots that are listed and shown.
 ghost use Rattle.std.specs.Prelude.{◌≡◌, List, ℕ, Bool, false, Option, IfOk, IfErr, None, unwrap_or};
-ghost use Rattle.command_table.specs.Plain.{plain, of_snapshot, snapshot_list as listed, snapshot_show as show_of};
+ghost use Rattle.command_value.specs.Plain.{plain, of_snapshot, snapshot_list as listed, snapshot_show as show_of};
 ghost use Rattle.step_model.specs.Answers.{IsMemory};
 ghost use Rattle.snapshot_ops.specs.Answers.{IsDone, IsOther, IsRefused};
 ghost use Rattle.snapshot_ops.specs.Cases.{show_case, snapshot_case};
 
 use crate::early::named_snapshot;
-use command_table::Command;
+use command_value::Command;
 use control_stanza::Text;
 use machine_state::{Change, ChangeFault, Refusal, State};
 use query_eval::Patterns;

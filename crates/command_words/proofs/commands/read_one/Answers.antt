@@ -2,7 +2,7 @@ use Rattle.std.proofs.Common.{◌∙◌, ap, sym, map, Some, ◌++◌, ◌∷◌
 use Rattle.std.proofs.lemmas.Result.{err_from_is_err_and}
 use Rattle.command_words.specs.Commands.{single, IsUsagePlace}
 use Rattle.command_words.specs.Fault.{IsCommandFault}
-use Rattle.command_table.specs.Plain.{plain}
+use Rattle.command_value.specs.Plain.{plain}
 use Rattle.command_words.proofs.Top.{one_command, one_fault, at_kept}
 use Rattle.command_words.proofs.commands.read_one.Goals as goal
 

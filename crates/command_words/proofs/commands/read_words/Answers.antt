@@ -1,7 +1,7 @@
 use Rattle.std.proofs.Common.{◌≡◌, ◌∙◌, ap, map, Some}
 use Rattle.std.proofs.lemmas.Result.{IfOk-weaker}
 use Rattle.command_words.specs.Commands.{after_task_run, cut, listed, commands, IsListFault, IsUsagePlace}
-use Rattle.command_table.specs.Plain.{plain}
+use Rattle.command_value.specs.Plain.{plain}
 use Rattle.command_words.proofs.Top.{list_read, list_place, faults_kept}
 use Rattle.command_words.proofs.commands.read_words.Goals as goal
 

@@ -1,7 +1,7 @@
 use Rattle.std.proofs.Common.{◌+◌, ◌<◌, ◌^◌, ◌∙◌, ap, sym, arith, inl, refl, map, Some, length}
 use Rattle.std.proofs.lemmas.List.{map-append}
 use Rattle.std.proofs.lemmas.Result.{err_from_is_err_and}
-use Rattle.command_table.specs.Plain.{plain}
+use Rattle.command_value.specs.Plain.{plain}
 use Rattle.command_words.proofs.Each.{list_fault, piece_fault, at_piece, one_more}
 use Rattle.command_words.proofs.list.read_pieces.Goals as goal
 

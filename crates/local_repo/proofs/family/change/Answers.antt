@@ -1,5 +1,5 @@
 use Rattle.std.proofs.Common.{ap, subst, None, inl}
-use Rattle.command_table.specs.Plain.{plain, repo_list}
+use Rattle.command_value.specs.Plain.{plain, repo_list}
 use Rattle.machine_state.specs.declared.refusal.Refusal.TheVariants.{NotBuilt}
 use Rattle.step_model.specs.Case.{Case}
 use Rattle.step_model.proofs.RefusalLemmas.{refuses_first}

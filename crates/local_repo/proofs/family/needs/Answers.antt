@@ -1,5 +1,5 @@
 use Rattle.std.proofs.Common.{◌∙◌, ℕ, List, ap, sym, None, Some}
-use Rattle.command_table.specs.Plain.{plain, plain_follow, of_repo, repo_copy, repo_move, repo_remove}
+use Rattle.command_value.specs.Plain.{plain, plain_follow, of_repo, repo_copy, repo_move, repo_remove}
 use Rattle.step_model.specs.Refuses.{Refuses}
 use Rattle.step_model.proofs.FaultLemmas.{keeps_same, none_told, wanted_along, refuses_along, told_along}
 use Rattle.repo_packages.specs.PackageCases.{copy_case, move_case}

@@ -1,5 +1,5 @@
 use Rattle.std.proofs.Common.{ap, None}
-use Rattle.command_table.specs.Plain.{plain}
+use Rattle.command_value.specs.Plain.{plain}
 use Rattle.step_model.proofs.FaultLemmas.{ok_along, fault_along}
 use Rattle.local_repo.proofs.CaseLemmas.{case_along, is_rename}
 use Rattle.local_repo.proofs.naming.rename.Goals as goal

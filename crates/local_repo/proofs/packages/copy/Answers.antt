@@ -1,5 +1,5 @@
 use Rattle.std.proofs.Common.{◌∙◌, ℕ, List, ap, sym, None}
-use Rattle.command_table.specs.Plain.{plain, plain_follow, of_repo, repo_copy}
+use Rattle.command_value.specs.Plain.{plain, plain_follow, of_repo, repo_copy}
 use Rattle.step_model.proofs.FaultLemmas.{ok_along, refused_along}
 use Rattle.local_repo.specs.Cases.{repo_case}
 use Rattle.local_repo.proofs.CaseLemmas.{case_along, is_copy}

@@ -1,5 +1,5 @@
 use Rattle.std.proofs.Common.{ap, subst, None}
-use Rattle.command_table.specs.Plain.{plain}
+use Rattle.command_value.specs.Plain.{plain}
 use Rattle.step_model.specs.Case.{Case}
 use Rattle.step_model.proofs.FaultLemmas.{ok_along, fault_along}
 use Rattle.repo_packages.specs.PackageCases.{ArrivesFor}

@@ -1,5 +1,5 @@
 use Rattle.std.proofs.Common.{◌∙◌, ap, sym}
-use Rattle.command_table.specs.Plain.{plain_follow}
+use Rattle.command_value.specs.Plain.{plain_follow}
 use Rattle.step_model.specs.Case.{Case}
 use Rattle.step_model.proofs.FaultLemmas.{err_map}
 use Rattle.repo_packages.proofs.OwnLemmas.{pair_unbuilt}

@@ -1,4 +1,4 @@
-use Rattle.command_table.specs.Plain.{plain_follow}
+use Rattle.command_value.specs.Plain.{plain_follow}
 use Rattle.step_model.proofs.AskingLemmas.{early_told}
 use Rattle.step_model.proofs.FaultLemmas.{at_exit, keeps_exit}
 use Rattle.repo_packages.proofs.PairLemmas.{pair_told, pair_wanted}

@@ -2,7 +2,7 @@ use Rattle.std.proofs.Common.{◌≡◌, ◌∙◌, List, Ok, map, subst, sym}
 use Rattle.query_tree.specs.Tree.{Tree}
 use Rattle.query_grammar.specs.Said.{query_of}
 use Rattle.std.proofs.lemmas.Result.{IfOk-weaker}
-use Rattle.command_table.specs.Plain.{plain_follow}
+use Rattle.command_value.specs.Plain.{plain_follow}
 use Rattle.step_model.proofs.AskingLemmas.{early_told, refused_told}
 use Rattle.step_model.proofs.FaultLemmas.{at_exit, err_map, keeps_exit}
 use Rattle.repo_packages.specs.PackageCases.{moving, joining, move_case}

@@ -1,5 +1,5 @@
 use Rattle.std.proofs.Common.{ap, None}
-use Rattle.command_table.specs.Plain.{plain}
+use Rattle.command_value.specs.Plain.{plain}
 use Rattle.step_model.proofs.FaultLemmas.{ok_along, fault_along}
 use Rattle.snapshot_ops.proofs.CaseLemmas.{case_along, is_create}
 use Rattle.snapshot_ops.proofs.creation.create.Goals as goal

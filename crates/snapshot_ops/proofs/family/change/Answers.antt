@@ -1,5 +1,5 @@
 use Rattle.std.proofs.Common.{ap, None, inl}
-use Rattle.command_table.specs.Plain.{plain, snapshot_list}
+use Rattle.command_value.specs.Plain.{plain, snapshot_list}
 use Rattle.machine_state.specs.declared.refusal.Refusal.TheVariants.{NotBuilt}
 use Rattle.step_model.proofs.RefusalLemmas.{refuses_first}
 use Rattle.step_model.proofs.FaultLemmas.{err_map, fault_memory, fault_along, fault_told, ok_along, refused_along}

@@ -1,5 +1,5 @@
 use Rattle.std.proofs.Common.{ap, sym, ◌∙◌, None}
-use Rattle.command_table.specs.Plain.{plain_follow}
+use Rattle.command_value.specs.Plain.{plain_follow}
 use Rattle.machine_state.specs.declared.refusal.Refusal.TheVariants.{NotBuilt}
 use Rattle.step_model.specs.Case.{Case}
 use Rattle.step_model.proofs.FaultLemmas.{told_along, wanted_along}

@@ -1,5 +1,5 @@
 use Rattle.std.proofs.Common.{◌∙◌, ℕ, List, ap, subst, sym, None, Some}
-use Rattle.command_table.specs.Plain.{plain, plain_follow, of_snapshot, snapshot_filter, snapshot_list, snapshot_merge}
+use Rattle.command_value.specs.Plain.{plain, plain_follow, of_snapshot, snapshot_filter, snapshot_list, snapshot_merge}
 use Rattle.machine_state.specs.declared.refusal.Refusal.TheVariants.{NotBuilt}
 use Rattle.step_model.specs.declared.reading.Reading.TheVariants as readings
 use Rattle.step_model.proofs.RefusalLemmas.{refuses_first}

@@ -1,5 +1,5 @@
 use Rattle.std.proofs.Common.{◌∙◌, ℕ, List, ap, sym, None}
-use Rattle.command_table.specs.Plain.{plain, plain_follow, of_snapshot, snapshot_filter}
+use Rattle.command_value.specs.Plain.{plain, plain_follow, of_snapshot, snapshot_filter}
 use Rattle.step_model.proofs.FaultLemmas.{ok_along, refused_along}
 use Rattle.snapshot_ops.specs.Cases.{snapshot_case}
 use Rattle.snapshot_ops.proofs.CaseLemmas.{case_along, is_filter}

@@ -1,5 +1,5 @@
 use Rattle.std.proofs.Common.{◌∙◌, ℕ, List, ap, sym, None}
-use Rattle.command_table.specs.Plain.{plain, of_snapshot, snapshot_merge}
+use Rattle.command_value.specs.Plain.{plain, of_snapshot, snapshot_merge}
 use Rattle.step_model.proofs.FaultLemmas.{ok_along, fault_along}
 use Rattle.snapshot_ops.specs.Cases.{snapshot_case}
 use Rattle.snapshot_ops.proofs.CaseLemmas.{case_along, is_merge}

@@ -1,7 +1,7 @@
 -- The flags of a new publication, as a command keeps them.
 use Rattle.std.specs.Prelude.{Option, option_map}
 use Rattle.std.specs.Global.{Vec}
-use Rattle.command_table.specs.Plain.{PlainSettings, Word}
+use Rattle.command_value.specs.Plain.{PlainSettings, Word}
 
 abbrev pub settings_of : Option (Vec Word) → Option (Vec Word) → Option Word → Option Word → Option Word → Option Word → Option Word → PlainSettings
 settings_of architectures components distribution origin label suite codename =

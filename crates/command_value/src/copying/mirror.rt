@@ -1,6 +1,6 @@
 //! Copies of commands of mirrors.
 ghost use Rattle.std.specs.Prelude.{◌≡◌, IfOk, option_map};
-ghost use Rattle.command_table.specs.Plain.{plain, of_mirror, mirror_create as mirror_create_of};
+ghost use Rattle.command_value.specs.Plain.{plain, of_mirror, mirror_create as mirror_create_of};
 
 use crate::command::Command;
 use crate::copying::repo::copy_repo;

@@ -1,6 +1,6 @@
 //! The flags that say which dependencies are followed.
 ghost use Rattle.std.specs.Prelude.{◌≡◌};
-ghost use Rattle.command_table.specs.Plain.{follows, plain_follow};
+ghost use Rattle.command_value.specs.Plain.{follows, plain_follow};
 
 use crate::command::Follow;
 

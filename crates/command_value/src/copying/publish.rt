@@ -1,7 +1,7 @@
 //! Copies of commands of publications.
 ghost use Rattle.std.specs.Prelude.{◌≡◌, IfOk, option_map};
-ghost use Rattle.command_table.specs.Plain.{plain, of_publish, publish_snapshot as publish_snapshot_of, publish_repo as publish_repo_of, publish_switch as publish_switch_of};
-ghost use Rattle.command_table.specs.Settings.{settings_of};
+ghost use Rattle.command_value.specs.Plain.{plain, of_publish, publish_snapshot as publish_snapshot_of, publish_repo as publish_repo_of, publish_switch as publish_switch_of};
+ghost use Rattle.command_value.specs.Settings.{settings_of};
 
 use crate::command::Command;
 use crate::copying::other::copy_other;

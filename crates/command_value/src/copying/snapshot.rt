@@ -1,6 +1,6 @@
 //! Copies of commands of snapshots.
 ghost use Rattle.std.specs.Prelude.{◌≡◌, IfOk};
-ghost use Rattle.command_table.specs.Plain.{plain, of_snapshot, plain_follow, snapshot_filter as snapshot_filter_of, snapshot_merge as snapshot_merge_of, snapshot_pull as snapshot_pull_of, snapshot_search as snapshot_search_of};
+ghost use Rattle.command_value.specs.Plain.{plain, of_snapshot, plain_follow, snapshot_filter as snapshot_filter_of, snapshot_merge as snapshot_merge_of, snapshot_pull as snapshot_pull_of, snapshot_search as snapshot_search_of};
 
 use crate::command::{Command, Follow};
 use crate::copying::copies;

@@ -1,10 +1,10 @@
 -- Commands without where they lie in memory.
 use Rattle.std.specs.Prelude.{◌||◌, List, ℕ, Option, Bool, option_map}
 use Rattle.std.specs.Option.{is_some}
-use Rattle.command_table.specs.declared.command.Follow.{Follow}
-use Rattle.command_table.specs.declared.command.Origin.{Origin}
-use Rattle.command_table.specs.declared.command.Command.{Command}
-use Rattle.command_table.specs.declared.command.Command.TheVariants as c
+use Rattle.command_value.specs.declared.command.Follow.{Follow}
+use Rattle.command_value.specs.declared.command.Origin.{Origin}
+use Rattle.command_value.specs.declared.command.Command.{Command}
+use Rattle.command_value.specs.declared.command.Command.TheVariants as c
 
 -- a text is the list of its bytes
 abbrev pub Word : Type 0

@@ -1,6 +1,6 @@
 //! Copies of commands of packages and of the store.
 ghost use Rattle.std.specs.Prelude.{◌≡◌, IfOk};
-ghost use Rattle.command_table.specs.Plain.{plain};
+ghost use Rattle.command_value.specs.Plain.{plain};
 
 use crate::command::Command;
 use std::alloc::{AllocError, Global};

@@ -1,6 +1,6 @@
 //! Copies of commands of local repositories.
 ghost use Rattle.std.specs.Prelude.{◌≡◌, IfOk};
-ghost use Rattle.command_table.specs.Plain.{plain, of_repo, plain_follow, repo_create as repo_create_of, repo_edit as repo_edit_of, repo_remove as repo_remove_of, repo_copy as repo_copy_of, repo_move as repo_move_of, repo_import as repo_import_of};
+ghost use Rattle.command_value.specs.Plain.{plain, of_repo, plain_follow, repo_create as repo_create_of, repo_edit as repo_edit_of, repo_remove as repo_remove_of, repo_copy as repo_copy_of, repo_move as repo_move_of, repo_import as repo_import_of};
 
 use crate::command::{Command, Follow};
 use crate::copying::snapshot::copy_snapshot;

@@ -1,6 +1,6 @@
 //! Copies of commands, and of what they are made of.
 ghost use Rattle.std.specs.Prelude.{◌≡◌, IfOk, option_map};
-ghost use Rattle.command_table.specs.Plain.{plain, plain_follow};
+ghost use Rattle.command_value.specs.Plain.{plain, plain_follow};
 
 mod mirror;
 mod other;
