@@ -53,6 +53,10 @@ AreListings (line ∷ lines) (file ∷ files) = IsListing line file × AreListin
 AreListings [] (file ∷ files) = ⊥
 AreListings (line ∷ lines) [] = ⊥
 
+-- those of the lines that aren't blank list these files, one each
+abbrev pub LinesList : List (List ℕ) → List Listed → Type 0
+LinesList lines files = AreListings (filter has_word lines) files
+
 abbrev pub path_of : Listed → List ℕ
 path_of file = file.path
 
@@ -63,7 +67,7 @@ are_different (text ∷ texts) = not (list_any (bytes_eq text) texts) && are_dif
 
 -- the lines of the value that aren't blank list these files, and no path stands twice
 pub record Lists (value : List ℕ) (files : List Listed) : Type 0 where
-  pub each : AreListings (filter has_word (value_lines value)) files
+  pub each : LinesList (value_lines value) files
   pub once : are_different (map path_of files) ≡ true
 
 -- the field SHA256 is there, and lists these files

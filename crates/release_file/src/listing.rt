@@ -1,10 +1,10 @@
 //! The files that a Release lists.
-ghost use Rattle.std.specs.Prelude.{◌≡◌, ◌∷◌, [], ◌++◌, ℕ, List, true, false, map, filter, IfOk, MatchOption};
+ghost use Rattle.std.specs.Prelude.{◌≡◌, ◌∷◌, [], ◌++◌, ℕ, List, true, false, IfOk, MatchOption};
 ghost use Rattle.control_stanza.specs.Fields.{value_lines};
 ghost use Rattle.release_file.specs.declared.listing.Listed.{Listed as File};
-ghost use Rattle.release_file.specs.Words.{words, has_word as is_filled};
+ghost use Rattle.release_file.specs.Words.{has_word as is_filled};
 ghost use Rattle.package_core.specs.Fields.{is_file_path};
-ghost use Rattle.release_file.specs.Release.{IsFile, IsListing, AreListings};
+ghost use Rattle.release_file.specs.Release.{IsFile, IsListing, LinesList};
 
 use crate::ordered::Word;
 use crate::words::{has_word, three_words};
@@ -79,7 +79,7 @@ fn read_listing(alloc: Global, line: &str) -> Result<Option<Listed>, AllocError>
 
 /// Adds the file that a line lists, if the line isn't blank; false where it lists none.
 fn put_listing(alloc: Global, files: &mut Vec<Listed>, line: &str) -> Result<bool, AllocError>
-    ensures good { IfOk result (λ b. b ≡ true → (before : List (List ℕ)) → AreListings (filter is_filled before) files.old.items → AreListings (filter is_filled (before ++ line.now ∷ [])) files.new.items) }
+    ensures good { IfOk result (λ b. b ≡ true → (before : List (List ℕ)) → LinesList before files.old.items → LinesList (before ++ line.now ∷ []) files.new.items) }
     ensures bad { IfOk result (λ b. b ≡ false → (is_filled line.now ≡ true) × ((file : File) → IsListing line.now file → ⊥)) }
 {
     if !has_word(line) {
@@ -96,7 +96,7 @@ fn put_listing(alloc: Global, files: &mut Vec<Listed>, line: &str) -> Result<boo
 
 /// The files that the lines list, of which those that are blank say nothing; `None` where a line lists none.
 fn read_lines(alloc: Global, lines: &[Word<'_>]) -> Result<Option<Vec<Listed>>, AllocError>
-    ensures { IfOk result (λ o. MatchOption o ((files : List File) → AreListings (filter is_filled lines.now) files → ⊥) (λ v. AreListings (filter is_filled lines.now) v.items)) }
+    ensures { IfOk result (λ o. MatchOption o ((files : List File) → LinesList lines.now files → ⊥) (λ v. LinesList lines.now v.items)) }
 {
     let mut files = Vec::new(alloc);
     for line in lines {
@@ -120,7 +120,7 @@ fn lines_in<'a>(alloc: Global, value: &'a str) -> Result<Vec<Word<'a>>, AllocErr
 
 /// The files that the lines of a value list, of which those that are blank say nothing; `None` where a line lists none.
 pub(crate) fn read_listings(alloc: Global, value: &str) -> Result<Option<Vec<Listed>>, AllocError>
-    ensures { IfOk result (λ o. MatchOption o ((files : List File) → AreListings (filter is_filled (value_lines value.now)) files → ⊥) (λ v. AreListings (filter is_filled (value_lines value.now)) v.items)) }
+    ensures { IfOk result (λ o. MatchOption o ((files : List File) → LinesList (value_lines value.now) files → ⊥) (λ v. LinesList (value_lines value.now) v.items)) }
 {
     let lines = lines_in(alloc, value)?;
     read_lines(alloc, &lines)
