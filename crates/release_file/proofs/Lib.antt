@@ -1,0 +1,4 @@
+pub mod WordLemmas
+pub mod NameLemmas
+pub mod ListingLemmas
+pub mod ReleaseLemmas
