@@ -87,11 +87,7 @@ fn meet_all<'a>(set: &mut BTreeSet<ByName<'a>>, list: &'a PackageList) -> Result
 }
 
 /// The architectures of both lists but `all`, in their order and each once.
-fn met_in(
-    alloc: Global,
-    base: &PackageList,
-    source: &PackageList,
-) -> Result<Vec<Name>, AllocError>
+fn met_in(alloc: Global, base: &PackageList, source: &PackageList) -> Result<Vec<Name>, AllocError>
     ensures { IfOk result (λ archs. archs.items ≡ union text_cmp [] (archs_met (base.now ++ source.now))) }
 {
     let mut set = BTreeSet::new(alloc);

@@ -18,8 +18,8 @@ loop-member-preserved c =
     let keys : List (List ℕ) = c.args.set.now.keys in
     let same : c.package.result.now ≡ x = c.package.ensures ∙ c.deref.ensures in
     let more : map rc_value (take (i + 1) items) ≡ before ++ x ∷ [] =
-        ap (map rc_value) (take_more items i item (omega arith)) ∙ map-append rc_value (take i items) (get_or items i item ∷ [])
-        ∙ ap (λ y. before ++ rc_value y ∷ []) (sym c.member-item.is)
+    ap (map rc_value) (take_more items i item (omega arith)) ∙ map-append rc_value (take i items) (get_or items i item ∷ [])
+    ∙ ap (λ y. before ++ rc_value y ∷ []) (sym c.member-item.is)
     in
     c.in_ok-meet.ensures
     ∙ (λ k. union text_cmp (c.loop-member.invariant k) (archs_met (same k ∷ [])))
