@@ -1,5 +1,6 @@
 -- What a pull is in a state.
 use Rattle.std.specs.Prelude.{ℕ, ◌++◌, Bool, true, false, not, List, length, Option, Result, Ok, Err, unwrap_or}
+use Rattle.ap_host.specs.Disk.{Files}
 use Rattle.package_core.specs.Card.{Card}
 use Rattle.package_list.specs.declared.fault.ListFault.{ListFault}
 use Rattle.package_list.specs.declared.fault.ListFault.TheVariants as faults
@@ -10,9 +11,11 @@ use Rattle.depend_pull.specs.Pull as pulls
 use Rattle.machine_state.specs.declared.limit.Limit.TheVariants.{Packages}
 use Rattle.machine_state.specs.declared.refusal.Refusal.{Refusal}
 use Rattle.machine_state.specs.declared.refusal.Refusal.TheVariants.{Conflict, Limit}
+use Rattle.machine_state.specs.declared.arrived.Arrived.{Arrived}
 use Rattle.machine_state.specs.Values.{StateView}
 use Rattle.package_choice.specs.Choice.{archs_for, bad_follow, trees_of}
 use Rattle.reply_text.specs.DryRuns.{dry_run_of}
+use Rattle.step_model.specs.declared.reading.Reading.{Reading}
 use Rattle.step_model.specs.Case.{Case, Came, changes, refuses, or_else, asking_case}
 use Rattle.step_model.specs.Names.{bad_name}
 use Rattle.snapshot_pull.specs.Replies.{snapshot_pulled}
@@ -73,3 +76,7 @@ unfoldable pub pull_case : StateView → (dry : Option Bool) → PullFlags → P
 pull_case state dry flags follow name source destination queries =
     asking_case (bad_pull state follow name source destination) queries
     (pulled_onto state (unwrap_or dry false) flags.remove destination (list_of state name) (taken_for flags follow.architectures (list_of state name) (list_of state source) queries))
+
+-- a pull looks at nothing that arrives
+abbrev pub MayArrive : Option Files → StateView → Reading → Arrived → Type 0
+MayArrive inbox state reading arrived = Unit {0}

@@ -8,12 +8,12 @@ ghost use Rattle.step_model.specs.Names.{bad_name};
 ghost use Rattle.snapshot_pull.specs.Pulls.{bad_pull};
 ghost use Rattle.snapshot_pull.specs.Snapshots.{taken, unknown};
 
+use crate::interim::check_follow;
 use crate::there::{free, there};
 use ap_text::Name;
 use command_value::Follow;
 use control_stanza::Text;
 use machine_state::{ChangeFault, Snapshot, State};
-use package_choice::check_follow;
 use std::alloc::Global;
 use step_model::name_of;
 

@@ -2,6 +2,7 @@
 #![tactic(auto)]
 
 mod early;
+mod interim;
 mod lawful;
 mod making;
 mod needs;

@@ -11,13 +11,13 @@ ghost use Rattle.step_model.specs.Case.{refuses};
 ghost use Rattle.snapshot_pull.specs.Pulls.{became as became_in, or_refused, pulled_onto, taken_for};
 ghost use Rattle.snapshot_pull.specs.Snapshots.{taken};
 
+use crate::interim::archs_of_both;
 use crate::making::{made, room};
 use crate::replies::snapshot_pulled;
 use ap_text::Name;
 use command_value::Follow;
 use depend_pull::{PullFlags, Pulled, pull_set};
 use machine_state::{Change, ChangeFault, Limit, Refusal, State};
-use package_choice::archs_of_both;
 use package_list::{ListFault, PackageList};
 use query_eval::Prepared;
 use reply_text::dry_run_reply;

@@ -57,7 +57,9 @@ fn pull_named<M: Patterns>(
     let (base, from, to) = pull_early(alloc, state, follow, name, source, destination)?;
     let asked = prepared_all(alloc, queries, patterns)?;
     let dry = dry_run.unwrap_or(false);
-    pull_onto(alloc, state, dry, flags, follow, &base.list, &from.list, to, &asked)
+    pull_onto(
+        alloc, state, dry, flags, follow, &base.list, &from.list, to, &asked,
+    )
 }
 
 /// `snapshot pull`: a new snapshot of what another has, once what queries take of a source came to it, with what that depends on. With
