@@ -35,13 +35,16 @@ abbrev pub came_or : Result (Unit {0}) Refusal → Came → Came
 came_or (Ok u) came = came
 came_or (Err refusal) came = refuses refusal
 
--- An architecture that is written can't be listed; the name of the base, of the source or of what is made is none; there is a snapshot of
--- the last name already; there is none of the first or of the second.
+-- The name of the base, of the source or of what is made is none; there is a snapshot of the last name already; there is none of the first
+-- or of the second.
+abbrev pub bad_ends : StateView → (name source destination : List ℕ) → Option Refusal
+bad_ends state name source destination =
+    or_else (bad_name name) (or_else (bad_name source) (or_else (bad_name destination)
+    (or_else (taken state.snapshots destination) (or_else (unknown state.snapshots name) (unknown state.snapshots source)))))
+
+-- an architecture that is written can't be listed, or else that
 abbrev pub bad_pull : StateView → PlainFollow → (name source destination : List ℕ) → Option Refusal
-bad_pull state follow name source destination =
-    or_else (bad_follow follow)
-    (or_else (bad_name name) (or_else (bad_name source) (or_else (bad_name destination)
-    (or_else (taken state.snapshots destination) (or_else (unknown state.snapshots name) (unknown state.snapshots source))))))
+bad_pull state follow name source destination = or_else (bad_follow follow) (bad_ends state name source destination)
 
 -- ---- what is made
 

@@ -36,12 +36,13 @@ fn put(alloc: Global, archs: &mut Vec<Name>, text: &str) -> Result<(), AllocErro
     Ok(())
 }
 
-pub fn archs_of_both(
+pub fn archs_for_both(
     alloc: Global,
     follow: &Follow,
     base: &PackageList,
     source: &PackageList,
 ) -> Result<Vec<Name>, AllocError>
+    requires { bad_follow (plain_follow follow.now) ≡ None }
     ensures { IfOk result (λ archs. archs.items ≡ archs_for (plain_follow follow.now).architectures (base.now ++ source.now)) }
 {
     let mut archs = Vec::new(alloc);

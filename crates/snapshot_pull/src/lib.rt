@@ -1,18 +1,18 @@
 //! Pulls of one snapshot onto another, and what all commands of snapshots have in common.
 #![tactic(auto)]
 
+mod checks;
 mod early;
 mod interim;
 mod lawful;
 mod making;
 mod needs;
 mod onto;
-mod pull;
+mod pulling;
 mod replies;
-mod there;
 
+pub use checks::{free, there};
 pub use lawful::pulls_are_lawful;
 pub use making::made;
 pub use needs::pull_needs;
-pub use pull::pull;
-pub use there::{free, there};
+pub use pulling::pull;

@@ -1,27 +1,31 @@
 //! What a pull makes of a base and a source.
-ghost use Rattle.std.specs.Prelude.{◌≡◌, List, ℕ, Ok, Err, true, false, IfOk, IfErr, OnOk, None, map};
+ghost use Rattle.std.specs.Prelude.{◌≡◌, List, ℕ, Ok, Err, true, false, IfOk, IfErr, OnOk, None, length, map};
 ghost use Rattle.command_value.specs.Plain.{plain_follow};
 ghost use Rattle.depend_pull.specs.Pull.{pull_answer, pulled as pulled_of, taken as taken_by};
 ghost use Rattle.machine_state.specs.State.{Valid};
 ghost use Rattle.package_core.specs.Card.{Card};
+ghost use Rattle.package_choice.specs.Choice.{bad_follow};
 ghost use Rattle.package_list.specs.Lists.{without};
 ghost use Rattle.query_grammar.specs.Said.{query_of};
+ghost use Rattle.reply_text.specs.DryRuns.{dry_run_of};
 ghost use Rattle.step_model.specs.Answers.{came, FaultIs, IsNew};
 ghost use Rattle.step_model.specs.Case.{refuses};
 ghost use Rattle.snapshot_pull.specs.Pulls.{became as became_in, or_refused, pulled_onto, taken_for};
+ghost use Rattle.snapshot_pull.specs.Replies.{snapshot_pulled as pulled_line};
 ghost use Rattle.snapshot_pull.specs.Snapshots.{taken};
 
-use crate::interim::archs_of_both;
+use crate::interim::archs_for_both;
 use crate::making::{made, room};
 use crate::replies::snapshot_pulled;
 use ap_text::Name;
 use command_value::Follow;
+use control_stanza::Text;
 use depend_pull::{PullFlags, Pulled, pull_set};
 use machine_state::{Change, ChangeFault, Limit, Refusal, State};
 use package_list::{ListFault, PackageList};
 use query_eval::Prepared;
 use reply_text::dry_run_reply;
-use std::alloc::Global;
+use std::alloc::{AllocError, Global};
 
 /// What is pulled of the source onto the base. It is refused where the base can't take it.
 fn pulled(
@@ -46,19 +50,39 @@ fn pulled(
     }
 }
 
-/// What a dry run tells: what would go and what would come. It is refused where there is no room for a snapshot more.
-fn dry(alloc: Global, state: &State, change: &Pulled) -> Result<Change, ChangeFault>
+/// What is said of a pull in a dry run.
+fn dry_reply(alloc: Global, change: &Pulled) -> Result<Text, AllocError>
+    ensures { IfOk result (λ text. text ≡ dry_run_of change.now.removed change.now.added) }
+{
+    dry_run_reply(alloc, change.removed.as_slice(), change.added.as_slice())
+}
+
+/// What is said of a pull that made a snapshot of this name.
+fn made_reply(alloc: Global, name: &Name, change: &Pulled) -> Result<Text, AllocError>
+    ensures { IfOk result (λ text. text ≡ pulled_line name.now (length change.now.list) (length change.now.added) (length change.now.removed)) }
+{
+    snapshot_pulled(
+        alloc,
+        name,
+        change.list.len() as u64,
+        change.added.len() as u64,
+        change.removed.len() as u64,
+    )
+}
+
+/// Tells what would go and what would come. It is refused where there is no room for a snapshot more.
+fn told(alloc: Global, state: &State, change: &Pulled) -> Result<Change, ChangeFault>
     ensures comes { (base : List Card) (destination : List ℕ) → change.now.added ≡ without change.now.list base → change.now.removed ≡ without base change.now.list → IfOk result (λ told. became_in state.now true destination base change.now.list ≡ came state.now told) }
     ensures fault { (base : List Card) (destination : List ℕ) → IfErr result (FaultIs (λ refusal. became_in state.now true destination base change.now.list ≡ refuses refusal)) }
     ensures new { IfOk result (λ told. IsNew state.now told.state) }
 {
     room(state)?;
-    let reply = dry_run_reply(alloc, change.removed.as_slice(), change.added.as_slice())?;
+    let reply = dry_reply(alloc, change)?;
     Ok(Change { state: None, reply })
 }
 
 /// Makes the snapshot, and tells how many packages came and went.
-fn wet(
+fn kept(
     alloc: Global,
     state: &State,
     destination: Name,
@@ -68,13 +92,7 @@ fn wet(
     ensures fault { (base : List Card) → change.added ≡ without change.list base → change.removed ≡ without base change.list → IfErr result (FaultIs (λ refusal. became_in state.now false destination base change.list ≡ refuses refusal)) }
     ensures new { taken state.now.snapshots destination ≡ None → Valid state.now → IfOk result (λ told. IsNew state.now told.state) }
 {
-    let reply = snapshot_pulled(
-        alloc,
-        &destination,
-        change.list.len() as u64,
-        change.added.len() as u64,
-        change.removed.len() as u64,
-    )?;
+    let reply = made_reply(alloc, &destination, &change)?;
     made(alloc, state, destination, change.list, reply)
 }
 
@@ -91,9 +109,9 @@ fn became(
     ensures new { taken state.now.snapshots destination ≡ None → Valid state.now → IfOk result (λ told. IsNew state.now told.state) }
 {
     if dry_run {
-        return dry(alloc, state, &change);
+        return told(alloc, state, &change);
     }
-    wet(alloc, state, destination, change)
+    kept(alloc, state, destination, change)
 }
 
 /// Pulls what the queries take of the source onto the base, with the architectures that are written or else those of both.
@@ -108,11 +126,12 @@ pub(crate) fn pull_onto(
     destination: Name,
     asked: &[Prepared],
 ) -> Result<Change, ChangeFault>
+    requires { bad_follow (plain_follow follow.now) ≡ None }
     ensures comes { (queries : List (List ℕ)) → map query_of queries ≡ map Ok asked.now → Valid state.now → IfOk result (λ told. pulled_onto state.now dry_run flags.now.remove destination base.now (taken_for flags.now (plain_follow follow.now).architectures base.now source.now queries) ≡ came state.now told) }
     ensures fault { (queries : List (List ℕ)) → map query_of queries ≡ map Ok asked.now → IfErr result (FaultIs (λ refusal. pulled_onto state.now dry_run flags.now.remove destination base.now (taken_for flags.now (plain_follow follow.now).architectures base.now source.now queries) ≡ refuses refusal)) }
     ensures new { taken state.now.snapshots destination ≡ None → Valid state.now → IfOk result (λ told. IsNew state.now told.state) }
 {
-    let archs = archs_of_both(alloc, follow, base, source)?;
+    let archs = archs_for_both(alloc, follow, base, source)?;
     let change = pulled(alloc, base, source, asked, flags, &archs)?;
     became(alloc, state, dry_run, destination, change)
 }
