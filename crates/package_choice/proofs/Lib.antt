@@ -1,0 +1,3 @@
+mod ArchLemmas
+pub mod ChoiceLemmas
+pub mod ListLemmas
