@@ -88,12 +88,12 @@ module _ (state : StateView) (destination : List ℕ) (base list added removed :
   made_so reply e = ap (λ (t : List ℕ). made state t destination list) (sym (e ∙ (λ i. snapshot_pulled destination (length list) (length (came i)) (length (went i)))))
 
 -- the same pull of lists and of a name that are seen otherwise
-pub pulled_as : (state : StateView) (dry : Bool) (flags : PullFlags) (written : Option (List (List ℕ))) (name source destination : List ℕ) (queries : List (List ℕ)) (base more : Snapshot) (to : List ℕ)
-    → snapshot_of name state.snapshots ≡ Some base → snapshot_of source state.snapshots ≡ Some more → to ≡ destination
+pub pulled_as : (state : StateView) (dry seen : Bool) (flags : PullFlags) (written : Option (List (List ℕ))) (name source destination : List ℕ) (queries : List (List ℕ)) (base more : Snapshot) (to : List ℕ)
+    → seen ≡ dry → snapshot_of name state.snapshots ≡ Some base → snapshot_of source state.snapshots ≡ Some more → to ≡ destination
     → pulled_onto state dry flags.remove destination (list_of state name) (taken_for flags written (list_of state name) (list_of state source) queries)
-    ≡ pulled_onto state dry flags.remove to base.list (taken_for flags written base.list more.list queries)
-pulled_as state dry flags written name source destination queries base more to b m t =
-    (λ i. pulled_onto state dry flags.remove (sym t i) (list_in (b i)) (taken_for flags written (list_in (b i)) (list_in (m i)) queries))
+    ≡ pulled_onto state seen flags.remove to base.list (taken_for flags written base.list more.list queries)
+pulled_as state dry seen flags written name source destination queries base more to d b m t =
+    (λ i. pulled_onto state (sym d i) flags.remove (sym t i) (list_in (b i)) (taken_for flags written (list_in (b i)) (list_in (m i)) queries))
 
 -- a command of this verb is of no other
 pub is_pull : (command : Command) (all dry no_deps no_remove : Option Bool) (follow : PlainFollow) (name source destination : List ℕ) (queries : List (List ℕ))

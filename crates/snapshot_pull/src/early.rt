@@ -7,11 +7,11 @@ ghost use Rattle.step_model.specs.Answers.{IsFirst};
 ghost use Rattle.snapshot_pull.specs.Pulls.{bad_ends, bad_pull};
 
 use crate::checks::{free, there};
-use crate::interim::check_follow;
 use ap_text::Name;
 use command_value::Follow;
 use control_stanza::Text;
 use machine_state::{ChangeFault, Snapshot, State};
+use package_choice::check_follow;
 use std::alloc::Global;
 use step_model::name_of;
 

@@ -3,7 +3,6 @@
 
 mod checks;
 mod early;
-mod interim;
 mod lawful;
 mod making;
 mod needs;

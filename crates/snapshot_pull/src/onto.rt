@@ -14,7 +14,6 @@ ghost use Rattle.snapshot_pull.specs.Pulls.{became as became_in, or_refused, pul
 ghost use Rattle.snapshot_pull.specs.Replies.{snapshot_pulled as pulled_line};
 ghost use Rattle.snapshot_pull.specs.Snapshots.{taken};
 
-use crate::interim::archs_for_both;
 use crate::making::{made, room};
 use crate::replies::snapshot_pulled;
 use ap_text::Name;
@@ -22,6 +21,7 @@ use command_value::Follow;
 use control_stanza::Text;
 use depend_pull::{PullFlags, Pulled, pull_set};
 use machine_state::{Change, ChangeFault, Limit, Refusal, State};
+use package_choice::archs_for_both;
 use package_list::{ListFault, PackageList};
 use query_eval::Prepared;
 use reply_text::dry_run_reply;

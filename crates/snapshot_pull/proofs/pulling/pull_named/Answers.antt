@@ -38,7 +38,7 @@ returns-clause-ok g c = λ arrived v.
     let queries = c.args.queries.now in
     let e = c.in_ok-base.ensures in
     let asked = subst (λ (l : List Tree). map query_of queries ≡ map Ok l) (sym c.deref.ensures.value) c.in_ok-asked.ensures.same in
-    let same = pulled_as state _ c.args.flags.now follow.architectures c.args.name.now c.args.source.now c.args.destination.now queries _ _ _ (e.base v) (e.source v) e.name in
+    let same = pulled_as state _ _ c.args.flags.now follow.architectures c.args.name.now c.args.source.now c.args.destination.now queries _ _ _ c.unwrap_or-dry.ensures (e.base v) (e.source v) e.name in
     IfOk-weaker c.pull_onto.result _ _
     (λ change h. asking_comes (bad_pull state follow c.args.name.now c.args.source.now c.args.destination.now) queries _ arrived _ (e.good v) c.in_ok-asked.ensures.good (same ∙ h))
     (c.pull_onto.ensures.comes queries asked v)
@@ -51,7 +51,7 @@ returns-clause-fault g c = λ arrived v.
     let queries = c.args.queries.now in
     let e = c.in_ok-base.ensures in
     let asked = subst (λ (l : List Tree). map query_of queries ≡ map Ok l) (sym c.deref.ensures.value) c.in_ok-asked.ensures.same in
-    let same = pulled_as state _ c.args.flags.now follow.architectures c.args.name.now c.args.source.now c.args.destination.now queries _ _ _ (e.base v) (e.source v) e.name in
+    let same = pulled_as state _ _ c.args.flags.now follow.architectures c.args.name.now c.args.source.now c.args.destination.now queries _ _ _ c.unwrap_or-dry.ensures (e.base v) (e.source v) e.name in
     err_map c.pull_onto.result _ _
     (λ fault h. asking_told (bad_pull state follow c.args.name.now c.args.source.now c.args.destination.now) queries _ _ _ _ arrived fault (e.good v) c.in_ok-asked.ensures.good
     (fault_map _ _ fault (λ refusal r. same ∙ r) h))
