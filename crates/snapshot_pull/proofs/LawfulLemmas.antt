@@ -1,5 +1,5 @@
 -- The law of pulls.
-use Rattle.std.proofs.Common.{◌≡◌, ◌≢◌, ℕ, List, [], ◌∷◌, Option, Some, None, Bool, true, false, unwrap_or, Result, Ok, Err, refl, inr}
+use Rattle.std.proofs.Common.{◌≡◌, ◌≢◌, ℕ, List, [], Option, Bool, true, false, unwrap_or, Result, Ok, Err, refl, inr}
 use Rattle.std.specs.Bool.{if◌then◌else◌}
 use Rattle.std.specs.List.{flat_map}
 use Rattle.package_core.specs.Card.{Card}
@@ -11,20 +11,21 @@ use Rattle.depend_pull.specs.declared.flags.PullFlags.{PullFlags}
 use Rattle.depend_pull.specs.Pull as pulls
 use Rattle.machine_state.specs.declared.limit.Limit.TheVariants as limits
 use Rattle.machine_state.specs.declared.refusal.Refusal.{Refusal}
-use Rattle.machine_state.specs.declared.refusal.Refusal.TheVariants.{BadName, Conflict, Limit}
+use Rattle.machine_state.specs.declared.refusal.Refusal.TheVariants.{Conflict, Limit}
 use Rattle.machine_state.specs.declared.arrived.Arrived.{Arrived}
 use Rattle.machine_state.specs.Lists.{IsNamedList}
 use Rattle.machine_state.specs.State.{Valid}
 use Rattle.machine_state.specs.Values.{StateView}
 use Rattle.machine_state.proofs.ListLemmas.{named_kept, named_union}
-use Rattle.package_choice.specs.Choice.{bad_arch, bad_archs, bad_follow, bad_written, is_listed_arch}
+use Rattle.package_choice.specs.Choice.{bad_follow}
+use Rattle.package_choice.proofs.ChoiceLemmas.{own_follow}
 use Rattle.reply_text.specs.DryRuns.{coming_line, dry_run_of, going_line}
 use Rattle.step_model.specs.declared.reading.Reading.TheVariants as readings
 use Rattle.step_model.specs.Case.{changes, or_else}
 use Rattle.step_model.specs.Names.{bad_name}
 use Rattle.step_model.specs.Lawful.{CommandLaw, IsLawful}
 use Rattle.step_model.specs.Refuses.{IsReadable, reading}
-use Rattle.step_model.proofs.OwnLemmas.{Own, first_none, own_else, own_if, own_name, second_none}
+use Rattle.step_model.proofs.OwnLemmas.{Own, first_none, own_else, own_name, second_none}
 use Rattle.snapshot_pull.specs.Pulls.{MayArrive, bad_ends, bad_pull, became, came_or, or_refused, pull_case, pulled_onto, taken_for}
 use Rattle.snapshot_pull.specs.Replies.{snapshot_pulled}
 use Rattle.snapshot_pull.specs.Snapshots.{list_of, taken, unknown}
@@ -32,14 +33,6 @@ use Rattle.snapshot_pull.proofs.JoinLemmas.{named_merged}
 use Rattle.snapshot_pull.proofs.LawLemmas.{Keeps, asking_law, behind_some, line_some, list_named, name_is, own_taken, own_unknown, refusing, room_keeps, room_made, telling}
 
 -- ---- refusals
-
-own_archs : (texts : List (List ℕ)) → Own (bad_archs texts)
-own_archs [] = tt
-own_archs (text ∷ texts) = own_else (bad_arch text) (bad_archs texts) (own_if (is_listed_arch text) None (Some (BadName text)) tt tt) (own_archs texts)
-
-own_written : (written : Option (List (List ℕ))) → Own (bad_written written)
-own_written None = tt
-own_written (Some texts) = own_archs texts
 
 own_ends : (state : StateView) (name source destination : List ℕ) → Own (bad_ends state name source destination)
 own_ends state name source destination =
@@ -50,7 +43,7 @@ own_ends state name source destination =
     (own_else (unknown state.snapshots name) (unknown state.snapshots source) (own_unknown state.snapshots name) (own_unknown state.snapshots source)))))
 
 own_pull : (state : StateView) (follow : PlainFollow) (name source destination : List ℕ) → Own (bad_pull state follow name source destination)
-own_pull state follow name source destination = own_else (bad_follow follow) (bad_ends state name source destination) (own_written follow.architectures) (own_ends state name source destination)
+own_pull state follow name source destination = own_else (bad_follow follow) (bad_ends state name source destination) (own_follow follow) (own_ends state name source destination)
 
 -- ---- replies
 

@@ -17,7 +17,8 @@ use Rattle.machine_state.specs.declared.refusal.Refusal.{Refusal}
 use Rattle.machine_state.specs.declared.snapshot.Snapshot.{Snapshot}
 use Rattle.machine_state.specs.State.{snapshot_of}
 use Rattle.machine_state.specs.Values.{StateView}
-use Rattle.package_choice.specs.Choice.{archs_for, tree_in, trees_of}
+use Rattle.package_choice.specs.Choice.{archs_for, bad_follow}
+use Rattle.package_choice.proofs.ChoiceLemmas.{trees_are}
 use Rattle.reply_text.specs.DryRuns.{dry_run_of}
 use Rattle.step_model.specs.Case.{Case, Came, changes, refuses, or_else, unbuilt}
 use Rattle.step_model.specs.Names.{bad_name}
@@ -25,7 +26,6 @@ use Rattle.step_model.proofs.OwnLemmas.{first_none, second_none}
 use Rattle.snapshot_pull.specs.Pulls.{bad_ends, bad_pull, became, came_or, flags_of, or_refused, pull_case, pulled_onto, taken_for}
 use Rattle.snapshot_pull.specs.Replies.{snapshot_pulled}
 use Rattle.snapshot_pull.specs.Snapshots.{list_in, list_of, made, taken, unknown, where_room}
-use Rattle.package_choice.specs.Choice.{bad_follow}
 
 -- ---- checks
 
@@ -45,24 +45,12 @@ ends_free state follow name source destination h =
     first_none (taken state.snapshots destination) (or_else (unknown state.snapshots name) (unknown state.snapshots source))
     (second_none (bad_name destination) _ (second_none (bad_name source) _ (second_none (bad_name name) _ (second_none (bad_follow follow) _ h))))
 
--- ---- queries
-
--- the trees of texts that are queries
-pub trees_as : (queries : List (List ℕ)) (trees : List Tree) → map query_of queries ≡ map Ok trees → trees_of queries ≡ trees
-trees_as [] [] e = refl
-trees_as [] (t ∷ trees) e = cc
-trees_as (query ∷ queries) [] e = cc
-trees_as (query ∷ queries) (t ∷ trees) e =
-    let here : query_of query ≡ Ok t = cc in
-    let rest : map query_of queries ≡ map Ok trees = cc in
-    (λ i. tree_in (here i) ++ trees_as queries trees rest i)
-
 -- ---- what is made
 
 -- what is taken, with architectures and queries that are seen otherwise
 pub taken_as : (flags : PullFlags) (written : Option (List (List ℕ))) (archs : List (List ℕ)) (base source : List Card) (queries : List (List ℕ)) (asked : List Tree) → archs ≡ archs_for written (base ++ source) → map query_of queries ≡ map Ok asked
     → taken_for flags written base source queries ≡ pulls.taken flags archs base source asked
-taken_as flags written archs base source queries asked a q = (λ i. pulls.taken flags (sym a i) base source (trees_as queries asked q i))
+taken_as flags written archs base source queries asked a q = (λ i. pulls.taken flags (sym a i) base source (trees_are queries asked q i))
 
 module _ (state : StateView) (dry remove : Bool) (destination : List ℕ) (base more wanted : List Card) (same : wanted ≡ more) where
   -- the base can take it
