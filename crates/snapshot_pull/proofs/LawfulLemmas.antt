@@ -1,5 +1,5 @@
 -- The law of pulls.
-use Rattle.std.proofs.Common.{◌≡◌, ◌≢◌, ℕ, List, [], Option, Bool, true, false, unwrap_or, Result, Ok, Err, refl, inr}
+use Rattle.std.proofs.Common.{◌≡◌, ◌≢◌, ℕ, List, [], Option, None, Bool, true, false, unwrap_or, Result, Ok, Err, refl, inr}
 use Rattle.std.specs.Bool.{if◌then◌else◌}
 use Rattle.std.specs.List.{flat_map}
 use Rattle.package_core.specs.Card.{Card}
