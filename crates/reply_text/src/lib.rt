@@ -1,6 +1,7 @@
 //! The lines that are said: the replies to commands, and the reasons of refusals.
 #![tactic(auto)]
 
+mod dry_runs;
 mod mirrors;
 mod packages;
 mod publications;
@@ -10,6 +11,7 @@ mod repos;
 mod snapshots;
 mod words;
 
+pub use dry_runs::dry_run_reply;
 pub use mirrors::{
     mirror_created, mirror_dropped, mirror_list, mirror_renamed, mirror_show, mirror_updated,
 };

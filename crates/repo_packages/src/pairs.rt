@@ -12,13 +12,13 @@ ghost use Rattle.repo_packages.specs.PackageReplies.{dry_run_of, repo_removed as
 
 use crate::early::pair_early;
 use crate::listing::{appended, listed, set_list};
-use crate::replies::{both, dry_run_reply, repo_removed};
+use crate::replies::{both, repo_removed};
 use command_value::Follow;
 use control_stanza::Text;
 use machine_state::{Change, ChangeFault, Repo, State};
 use package_list::PackageList;
 use query_eval::Patterns;
-use reply_text::repo_added;
+use reply_text::{dry_run_reply, repo_added};
 use std::alloc::{AllocError, Global};
 use step_model::{chosen_in, prepared_all, without_of};
 

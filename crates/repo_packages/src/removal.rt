@@ -8,11 +8,12 @@ ghost use Rattle.repo_packages.specs.PackageCases.{removal, removal_case, Finds}
 
 use crate::checks::named_repo;
 use crate::listing::listed;
-use crate::replies::{dry_run_reply, repo_removed};
+use crate::replies::repo_removed;
 use control_stanza::Text;
 use machine_state::{Change, ChangeFault, Repo, State};
 use package_list::PackageList;
 use query_eval::Patterns;
+use reply_text::dry_run_reply;
 use std::alloc::Global;
 use step_model::{chosen_in, prepared_all, without_of};
 

@@ -8,7 +8,7 @@ use Rattle.command_value.specs.declared.command.Command.TheVariants as commands
 use Rattle.command_value.specs.declared.command.Follow.{Follow}
 use Rattle.command_value.specs.declared.command.Origin.{Origin}
 use Rattle.command_value.specs.declared.command.Origin.TheVariants as origins
-use Rattle.command_value.specs.Plain.{PlainCommand, PlainFollow, SnapshotCommand, follows, plain, of_snapshot, snapshot_create, snapshot_list, snapshot_show, snapshot_filter, snapshot_merge, snapshot_search, snapshot_rename, snapshot_drop}
+use Rattle.command_value.specs.Plain.{PlainCommand, PlainFollow, SnapshotCommand, follows, plain, of_snapshot, snapshot_create, snapshot_list, snapshot_show, snapshot_filter, snapshot_merge, snapshot_pull, snapshot_search, snapshot_rename, snapshot_drop}
 use Rattle.machine_state.specs.declared.limit.Kind.TheVariants as kinds
 use Rattle.machine_state.specs.declared.change.ChangeFault.{ChangeFault}
 use Rattle.machine_state.specs.declared.refusal.Refusal.{Refusal}
@@ -26,44 +26,17 @@ use Rattle.step_model.specs.Answers.{AreBuilt, ComesTo, FaultIs, IsFirst, IsRefu
 use Rattle.step_model.proofs.AskingLemmas.{asking_comes}
 use Rattle.step_model.proofs.FaultLemmas.{fault_map}
 use Rattle.step_model.proofs.RefusalLemmas.{passes, reads_on}
-use Rattle.snapshot_ops.specs.Cases.{copy_case, empty_case, snapshot_case, taken, unknown, unknown_repo, without_following}
+pub use Rattle.step_model.proofs.OwnLemmas.{first_none, second_none}
+pub use Rattle.snapshot_pull.proofs.CaseLemmas.{asking_told, is_free, is_there, taken_along, unknown_along}
+use Rattle.snapshot_ops.specs.Cases.{copy_case, empty_case, snapshot_case, unknown_repo, without_following}
 
 -- ---- names
-
-pub taken_along : (snapshots : List Snapshot) (n m : List ℕ) (fault : ChangeFault) → n ≡ m → IsFirst (taken snapshots n) fault → IsFirst (taken snapshots m) fault
-taken_along snapshots n m fault f h = subst (λ (k : List ℕ). IsFirst (taken snapshots k) fault) f h
-
-pub unknown_along : (snapshots : List Snapshot) (n m : List ℕ) (fault : ChangeFault) → n ≡ m → IsFirst (unknown snapshots n) fault → IsFirst (unknown snapshots m) fault
-unknown_along snapshots n m fault f h = subst (λ (k : List ℕ). IsFirst (unknown snapshots k) fault) f h
 
 pub repo_along : (repos : List Repo) (n m : List ℕ) (fault : ChangeFault) → n ≡ m → IsFirst (unknown_repo repos n) fault → IsFirst (unknown_repo repos m) fault
 repo_along repos n m fault f h = subst (λ (k : List ℕ). IsFirst (unknown_repo repos k) fault) f h
 
 pub used_along : (publications : List PublicationView) (n m : List ℕ) (fault : ChangeFault) → n ≡ m → IsFirst (in_use kinds.Snapshot n publications) fault → IsFirst (in_use kinds.Snapshot m publications) fault
 used_along publications n m fault f h = subst (λ (k : List ℕ). IsFirst (in_use kinds.Snapshot k publications) fault) f h
-
--- where nothing refuses
-pub first_none : (a b : Option Refusal) → or_else a b ≡ None → a ≡ None
-first_none None b h = refl
-first_none (Some r) b h = cc
-
-pub second_none : (a b : Option Refusal) → or_else a b ≡ None → b ≡ None
-second_none None b h = h
-second_none (Some r) b h = cc
-
-pub is_free : (snapshots : List Snapshot) (name : List ℕ) → taken snapshots name ≡ None → is_some (snapshot_of name snapshots) ≡ false
-is_free snapshots name = by_found (is_some (snapshot_of name snapshots))
-  where
-    by_found : (b : Bool) → (if b then Some (Exists kinds.Snapshot name) else None) ≡ None → b ≡ false
-    by_found true h = cc
-    by_found false h = refl
-
-pub is_there : (snapshots : List Snapshot) (name : List ℕ) → unknown snapshots name ≡ None → is_some (snapshot_of name snapshots) ≡ true
-is_there snapshots name = by_found (is_some (snapshot_of name snapshots))
-  where
-    by_found : (b : Bool) → (if b then None else Some (Unknown kinds.Snapshot name)) ≡ None → b ≡ true
-    by_found true h = refl
-    by_found false h = cc
 
 -- ---- commands without queries
 
@@ -105,6 +78,7 @@ module _ (command : Command)
     (d : (packages : Option Bool) (name : List ℕ) → command ≡ commands.SnapshotShow packages name → ⊥)
     (e : (deps : Option Bool) (follow : Follow) (source destination : List ℕ) (queries : Vec (List ℕ)) → command ≡ commands.SnapshotFilter deps follow source destination queries → ⊥)
     (f : (latest no_remove : Option Bool) (destination : List ℕ) (sources : Vec (List ℕ)) → command ≡ commands.SnapshotMerge latest no_remove destination sources → ⊥)
+    (p : (all dry no_deps no_remove : Option Bool) (follow : Follow) (name source destination : List ℕ) (queries : Vec (List ℕ)) → command ≡ commands.SnapshotPull all dry no_deps no_remove follow name source destination queries → ⊥)
     (g : (deps : Option Bool) (follow : Follow) (name query : List ℕ) → command ≡ commands.SnapshotSearch deps follow name query → ⊥)
     (h : (before after : List ℕ) → command ≡ commands.SnapshotRename before after → ⊥)
     (k : (name : List ℕ) → command ≡ commands.SnapshotDrop name → ⊥) where
@@ -115,6 +89,7 @@ module _ (command : Command)
   unbuilt_in state (commands.SnapshotShow packages name) is = absurd (d packages name is)
   unbuilt_in state (commands.SnapshotFilter deps follow source destination queries) is = absurd (e deps follow source destination queries is)
   unbuilt_in state (commands.SnapshotMerge latest no_remove destination sources) is = absurd (f latest no_remove destination sources is)
+  unbuilt_in state (commands.SnapshotPull all dry no_deps no_remove follow name source destination queries) is = absurd (p all dry no_deps no_remove follow name source destination queries is)
   unbuilt_in state (commands.SnapshotSearch deps follow name query) is = absurd (g deps follow name query is)
   unbuilt_in state (commands.SnapshotRename before after) is = absurd (h before after is)
   unbuilt_in state (commands.SnapshotDrop name) is = absurd (k name is)
@@ -173,13 +148,6 @@ create_unbuilt state name origin mirror e = ap (λ (o : Origin). (snapshot_case 
 -- four checks that find nothing
 pub all_none : (a b c d : Option Refusal) → a ≡ None → b ≡ None → c ≡ None → d ≡ None → or_else a (or_else b (or_else c d)) ≡ None
 all_none a b c d e f g h = (λ i. or_else (e i) (or_else (f i) (or_else (g i) (h i))))
-
--- a command with queries that is refused behind them
-pub asking_told : (early : Option Refusal) (queries : List (List ℕ)) (came : Came) (old new : ℕ) (refused : Option (List ℕ)) (arrived : Arrived) (fault : ChangeFault) → early ≡ None → AreBuilt queries → FaultIs (λ refusal. came ≡ refuses refusal) fault
-    → FaultIs (λ refusal. Told old new refused (λ large. IsRefusedFor large (asking_case early queries came) arrived refusal)) fault
-asking_told early queries came old new refused arrived fault good built h =
-    fault_map (λ refusal. came ≡ refuses refusal) (λ refusal. Told old new refused (λ large. IsRefusedFor large (asking_case early queries came) arrived refusal)) fault
-    (λ refusal e. (None, tt, inr (asking_comes early queries came arrived (refuses refusal) good built e))) h
 
 pub list_wanted : (state : StateView) → IsWanted None (snapshot_case state snapshot_list) readings.Nothing
 unfolding snapshot_case

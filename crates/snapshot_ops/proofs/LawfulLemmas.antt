@@ -2,7 +2,7 @@
 use Rattle.std.proofs.Common.{◌≡◌, ◌≢◌, ℕ, List, [], ◌∷◌, map, ap, Option, Some, None, Bool, true, false, unwrap_or, refl, sym, subst, inl, inr}
 use Rattle.std.specs.Bool.{if◌then◌else◌}
 use Rattle.command_value.specs.declared.command.Origin.TheVariants as origins
-use Rattle.command_value.specs.Plain.{PlainFollow, SnapshotCommand, follows, snapshot_create, snapshot_list, snapshot_show, snapshot_filter, snapshot_merge, snapshot_search, snapshot_rename, snapshot_drop}
+use Rattle.command_value.specs.Plain.{PlainFollow, SnapshotCommand, follows, snapshot_create, snapshot_list, snapshot_show, snapshot_filter, snapshot_merge, snapshot_pull, snapshot_search, snapshot_rename, snapshot_drop}
 use Rattle.package_core.specs.Card.{Card}
 use Rattle.machine_state.specs.declared.limit.Kind.TheVariants as kinds
 use Rattle.machine_state.specs.declared.snapshot.Snapshot.{Snapshot}
@@ -21,6 +21,8 @@ use Rattle.step_model.specs.Lawful.{CommandLaw, IsLawful}
 use Rattle.step_model.specs.Queries.{found_by}
 use Rattle.step_model.specs.Refuses.{IsReadable, reading}
 use Rattle.snapshot_ops.specs.Cases.{MayArrive, bad_among, bad_copy, bad_drop, bad_empty, bad_filter, bad_merge, bad_rename, bad_snapshot, copy_case, drop_case, empty_case, filter_case, list_of, merge_case, rename_case, repo_list_of, search_case, show_case, shown, snapshot_case, snapshot_renamed_in, taken, unknown, unknown_among, unknown_repo, without_following, without_snapshot}
+use Rattle.snapshot_pull.specs.Pulls.{flags_of}
+use Rattle.snapshot_pull.proofs.LawfulLemmas.{pull_lawful, pull_reads}
 use Rattle.snapshot_ops.specs.Merges.{merge_of, way_of}
 use Rattle.snapshot_ops.specs.Replies as own
 use Rattle.snapshot_ops.proofs.CaseLemmas.{first_none, follows_not, follows_unbuilt, second_none}
@@ -137,6 +139,7 @@ lawful snapshot_list = inr (λ inbox state. list_law state _)
 lawful (snapshot_show packages name) = inr (λ inbox state. show_law state _ (unwrap_or packages false) name)
 lawful (snapshot_filter deps follow source destination queries) = following_law deps follow (λ state. filter_case state source destination queries) (λ state May. filter_law state May source destination queries)
 lawful (snapshot_merge newest no_remove destination sources) = inr (λ inbox state. merge_law state _ (unwrap_or newest false) (unwrap_or no_remove false) destination sources)
+lawful (snapshot_pull all dry no_deps no_remove follow name source destination queries) = pull_lawful dry (flags_of all no_deps no_remove follow) follow name source destination queries
 lawful (snapshot_search deps follow name query) = following_law deps follow (λ state. search_case state name query) (λ state May. search_law state May name query)
 lawful (snapshot_rename before after) = inr (λ inbox state. rename_law state _ before after)
 lawful (snapshot_drop name) = inr (λ inbox state. drop_law state _ name)
@@ -163,6 +166,7 @@ snapshot_reads state snapshot_list = tt
 snapshot_reads state (snapshot_show packages name) = nothing_read _
 snapshot_reads state (snapshot_filter deps follow source destination queries) = following_read deps follow _ (nothing_read _)
 snapshot_reads state (snapshot_merge newest no_remove destination sources) = nothing_read _
+snapshot_reads state (snapshot_pull all dry no_deps no_remove follow name source destination queries) = pull_reads state dry (flags_of all no_deps no_remove follow) follow name source destination queries
 snapshot_reads state (snapshot_search deps follow name query) = following_read deps follow _ (nothing_read _)
 snapshot_reads state (snapshot_rename before after) = nothing_read _
 snapshot_reads state (snapshot_drop name) = nothing_read _

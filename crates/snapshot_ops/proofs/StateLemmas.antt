@@ -1,38 +1,21 @@
--- Valid states with a snapshot more, with one less, and with one of another name.
-use Rattle.std.proofs.Common.{◌≡◌, ℕ, ◌<◌, Bool, true, false, cond, List, length, None, IsTrue, All, refl, subst}
+-- Valid states with a snapshot less, and with one of another name.
+use Rattle.std.proofs.Common.{◌≡◌, ℕ, Bool, true, false, cond, List, None, IsTrue, refl, subst}
 use Rattle.std.specs.Str.{bytes_eq}
 use Rattle.std.proofs.lemmas.Slice.Eq.{bytes_eq-Decides}
 use Rattle.ap_text.specs.Names.{is_name}
 use Rattle.machine_state.specs.declared.limit.Kind.TheVariants as kinds
 use Rattle.machine_state.specs.declared.snapshot.Snapshot.{Snapshot}
-use Rattle.machine_state.specs.Lists.{IsNamedList}
 use Rattle.machine_state.specs.Mirrors.{IsSnapshot, SnapshotLists}
 use Rattle.machine_state.specs.Sources.{in_use}
-use Rattle.machine_state.specs.State.{Valid, AreSnapshots, ArePublications, HasSources, has_source, snapshot_name}
-use Rattle.machine_state.specs.Values.{PublicationView, StateView}
-use Rattle.machine_state.proofs.KindLemmas.{kind_dropped, kind_put, kind_renamed}
-use Rattle.machine_state.proofs.NamedLemmas.{dropped_keeps, put_keeps, renamed_has, renamed_keeps}
-use Rattle.machine_state.proofs.SourceLemmas.{Follows, Remains, Stay, publications_renamed, sources_follow, sources_kept, sources_remain}
-use Rattle.snapshot_ops.specs.Cases.{called, snapshot_renamed_in, with_snapshot, without_snapshot}
-
--- the same state with other snapshots and publications
-valid_snapshots : (state : StateView) (snapshots : List Snapshot) (publications : List PublicationView) → Valid state → AreSnapshots state.known snapshots → ArePublications state.known publications
-    → All (HasSources (record state { snapshots = snapshots; publications = publications })) publications → Valid (record state { snapshots = snapshots; publications = publications })
-valid_snapshots state snapshots publications v are published sources = record { known = v.known; mirrors = v.mirrors; repos = v.repos; snapshots = are; publications = published; sources = sources }
+use Rattle.machine_state.specs.State.{Valid, has_source, snapshot_name}
+use Rattle.machine_state.specs.Values.{StateView}
+use Rattle.machine_state.proofs.KindLemmas.{kind_dropped, kind_renamed}
+use Rattle.machine_state.proofs.NamedLemmas.{dropped_keeps, renamed_has, renamed_keeps}
+use Rattle.machine_state.proofs.SourceLemmas.{Follows, Remains, publications_renamed, sources_follow, sources_remain}
+use Rattle.snapshot_pull.proofs.StateLemmas.{valid_snapshots}
+use Rattle.snapshot_ops.specs.Cases.{called, snapshot_renamed_in, without_snapshot}
 
 module _ (state : StateView) (v : Valid state) where
-  -- there is a snapshot more
-  pub valid_more : (snapshot : Snapshot) → is_name snapshot.name ≡ true → IsNamedList state.known snapshot.list → length state.snapshots < 10000 → Valid (with_snapshot state snapshot)
-  valid_more snapshot is list few =
-      valid_snapshots state _ state.publications v (kind_put snapshot_name IsSnapshot (SnapshotLists state.known) _ snapshot state.snapshots is list few v.snapshots) v.publications
-      (sources_kept state (with_snapshot state snapshot) stay state.publications v.sources)
-    where
-      stay : Stay state (with_snapshot state snapshot)
-      stay kinds.Snapshot n h = put_keeps snapshot_name snapshot state.snapshots n h
-      stay kinds.Repo n h = h
-      stay kinds.Mirror n h = h
-      stay kinds.Component n h = h
-
   -- a snapshot that no publication uses is no more
   pub valid_dropped : (name : List ℕ) → in_use kinds.Snapshot name state.publications ≡ None → Valid (without_snapshot state name)
   valid_dropped name unused =

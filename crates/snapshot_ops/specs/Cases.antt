@@ -1,42 +1,30 @@
 -- The commands of snapshots: what each is in a state.
-use Rattle.std.specs.Prelude.{ℕ, Bool, false, List, [], ◌∷◌, length, map, Option, Some, None, Result, Ok, Err, nat_le, unwrap_or, if◌then◌else◌}
+use Rattle.std.specs.Prelude.{ℕ, Bool, false, List, [], ◌∷◌, length, map, Option, Some, None, Result, Ok, Err, unwrap_or, if◌then◌else◌}
 use Rattle.std.specs.Option.{is_some}
-use Rattle.ap_host.specs.Disk.{Files}
 use Rattle.package_core.specs.Card.{Card}
 use Rattle.command_value.specs.declared.command.Origin.TheVariants as origins
-use Rattle.command_value.specs.Plain.{SnapshotCommand, PlainFollow, follows, snapshot_create, snapshot_list, snapshot_show, snapshot_filter, snapshot_merge, snapshot_search, snapshot_rename, snapshot_drop}
+use Rattle.command_value.specs.Plain.{SnapshotCommand, PlainFollow, follows, snapshot_create, snapshot_list, snapshot_show, snapshot_filter, snapshot_merge, snapshot_pull, snapshot_search, snapshot_rename, snapshot_drop}
 use Rattle.machine_state.specs.declared.limit.Kind.TheVariants as kinds
-use Rattle.machine_state.specs.declared.limit.Limit.TheVariants.{Snapshots}
 use Rattle.machine_state.specs.declared.refusal.Refusal.{Refusal}
-use Rattle.machine_state.specs.declared.refusal.Refusal.TheVariants.{Exists, Unknown, Limit}
-use Rattle.machine_state.specs.declared.arrived.Arrived.{Arrived}
+use Rattle.machine_state.specs.declared.refusal.Refusal.TheVariants.{Unknown}
 use Rattle.machine_state.specs.declared.repo.Repo.{Repo}
 use Rattle.machine_state.specs.declared.snapshot.Snapshot.{Snapshot}
-use Rattle.machine_state.specs.Ascending.{put}
-use Rattle.machine_state.specs.Limits.{limit_number}
 use Rattle.machine_state.specs.Named.{dropped, renamed}
 use Rattle.machine_state.specs.Sources.{in_use, source_renamed}
-use Rattle.machine_state.specs.State.{repo_of, snapshot_cmp, snapshot_name, snapshot_of}
+use Rattle.machine_state.specs.State.{repo_of, snapshot_name, snapshot_of}
 use Rattle.machine_state.specs.Values.{StateView}
 use Rattle.query_grammar.specs.Said.{query_of}
 use Rattle.reply_text.specs.Replies.{package_search}
 use Rattle.reply_text.specs.Snapshots as replies
-use Rattle.step_model.specs.declared.reading.Reading.{Reading}
 use Rattle.step_model.specs.Case.{Case, Came, changes, refuses, or_else, plain_case, asking_case, unbuilt}
 use Rattle.step_model.specs.Queries.{chosen, found_by}
 use Rattle.step_model.specs.Names.{bad_name}
+pub use Rattle.snapshot_pull.specs.Snapshots.{taken, unknown, list_in, list_of, snapshot_from, with_snapshot, made}
+pub use Rattle.snapshot_pull.specs.Pulls.{MayArrive, flags_of, pull_case}
 use Rattle.snapshot_ops.specs.Merges.{merge_of, way_of}
 use Rattle.snapshot_ops.specs.Replies as own
 
 -- ---- what is there
-
--- a snapshot has the name already
-abbrev pub taken : List Snapshot → List ℕ → Option Refusal
-taken snapshots name = if is_some (snapshot_of name snapshots) then Some (Exists kinds.Snapshot name) else None
-
--- no snapshot has the name
-abbrev pub unknown : List Snapshot → List ℕ → Option Refusal
-unknown snapshots name = if is_some (snapshot_of name snapshots) then None else Some (Unknown kinds.Snapshot name)
 
 -- no repository has the name
 abbrev pub unknown_repo : List Repo → List ℕ → Option Refusal
@@ -56,14 +44,6 @@ abbrev pub unknown_among : List Snapshot → List (List ℕ) → Option Refusal
 unknown_among snapshots [] = None
 unknown_among snapshots (name ∷ names) = or_else (unknown snapshots name) (unknown_among snapshots names)
 
-abbrev pub list_in : Option Snapshot → List Card
-list_in None = []
-list_in (Some snapshot) = snapshot.list
-
--- the list of the snapshot of that name
-abbrev pub list_of : StateView → List ℕ → List Card
-list_of state name = list_in (snapshot_of name state.snapshots)
-
 abbrev pub repo_list_in : Option Repo → List Card
 repo_list_in None = []
 repo_list_in (Some repo) = repo.list
@@ -74,18 +54,9 @@ repo_list_of state name = repo_list_in (repo_of name state.repos)
 
 -- ---- a new snapshot
 
-abbrev pub snapshot_from : List ℕ → List Card → Snapshot
-snapshot_from name list = record { name = name; list = list }
-
--- the state with one snapshot more
-abbrev pub with_snapshot : StateView → Snapshot → StateView
-with_snapshot state snapshot = record state { snapshots = put snapshot_cmp snapshot state.snapshots }
-
 -- a snapshot more, of this name and this list, where there is room for it
 abbrev pub created : StateView → List ℕ → List Card → Came
-created state name list =
-    if nat_le (limit_number Snapshots) (length state.snapshots) then refuses (Limit Snapshots)
-    else changes (own.snapshot_created name (length list)) (with_snapshot state (snapshot_from name list))
+created state name list = made state (own.snapshot_created name (length list)) name list
 
 -- the same of what a merge makes, where it makes a list
 abbrev pub created_from : StateView → List ℕ → Result (List Card) Refusal → Came
@@ -180,11 +151,8 @@ snapshot_case state snapshot_list = plain_case None (changes (replies.snapshot_l
 snapshot_case state (snapshot_show packages name) = show_case state (unwrap_or packages false) name
 snapshot_case state (snapshot_filter deps follow source destination queries) = without_following deps follow (filter_case state source destination queries)
 snapshot_case state (snapshot_merge latest no_remove destination sources) = merge_case state (unwrap_or latest false) (unwrap_or no_remove false) destination sources
+snapshot_case state (snapshot_pull all dry no_deps no_remove follow name source destination queries) = pull_case state dry (flags_of all no_deps no_remove follow) follow name source destination queries
 snapshot_case state (snapshot_search deps follow name query) = without_following deps follow (search_case state name query)
 snapshot_case state (snapshot_rename before after) = rename_case state before after
 snapshot_case state (snapshot_drop name) = drop_case state name
 snapshot_case state command = unbuilt
-
--- a command of snapshots reads nothing, and looks at nothing that arrives
-abbrev pub MayArrive : Option Files → StateView → Reading → Arrived → Type 0
-MayArrive inbox state reading arrived = Unit {0}

@@ -2,13 +2,11 @@
 use Rattle.std.specs.Prelude.{◌≡◌, Bool, List, [], ◌∷◌, Result, Ok, Err, if◌then◌else◌}
 use Rattle.package_core.specs.Card.{Card}
 use Rattle.package_list.specs.declared.fault.ListFault.{ListFault}
-use Rattle.package_list.specs.declared.fault.ListFault.TheVariants as faults
 use Rattle.package_list.specs.declared.list.TheConstants.{MOST_MEMBERS}
 use Rattle.package_list.specs.Answers.{append_answer, size_answer}
 use Rattle.package_list.specs.Lists.{latest, merged, union}
-use Rattle.machine_state.specs.declared.limit.Limit.TheVariants.{Packages}
 use Rattle.machine_state.specs.declared.refusal.Refusal.{Refusal}
-use Rattle.machine_state.specs.declared.refusal.Refusal.TheVariants.{Conflict, Limit}
+pub use Rattle.snapshot_pull.specs.Pulls.{or_refused}
 use Rattle.snapshot_ops.specs.declared.way.Way.{Way}
 use Rattle.snapshot_ops.specs.declared.way.Way.TheVariants.{Replacing, Keeping, Latest}
 
@@ -28,13 +26,6 @@ abbrev pub join_answer : Way → List Card → List Card → Result (Unit {0}) L
 join_answer Replacing own more = size_answer MOST_MEMBERS (merged own more)
 join_answer Keeping own more = append_answer own more
 join_answer Latest own more = size_answer MOST_MEMBERS (latest own more)
-
--- a list that refuses others refuses so (memory isn't wanted here)
-abbrev pub or_refused : Result (Unit {0}) ListFault → Result (Unit {0}) Refusal
-or_refused (Ok u) = Ok tt
-or_refused (Err (faults.Conflict triple)) = Err (Conflict triple)
-or_refused (Err faults.Full) = Err (Limit Packages)
-or_refused (Err faults.OutOfMemory) = Err (Limit Packages)
 
 -- the source can't join those before it, for this
 abbrev pub IsJoinRefusal : Way → List Card → List Card → Refusal → Type 0

@@ -1,14 +1,15 @@
 //! Whether snapshots are there, and whether one is in use.
 ghost use Rattle.std.specs.Prelude.{◌≡◌, IfOk, IfErr, OnOk, None, Some};
 ghost use Rattle.machine_state.specs.Sources.{in_use as use_of};
-ghost use Rattle.machine_state.specs.State.{Valid, repo_of, snapshot_of};
+ghost use Rattle.machine_state.specs.State.{Valid, repo_of};
 ghost use Rattle.machine_state.specs.declared.limit.Kind.TheVariants as kinds;
 ghost use Rattle.step_model.specs.Answers.{IsFirst};
-ghost use Rattle.snapshot_ops.specs.Cases.{bad_among, taken, unknown, unknown_among, unknown_repo};
+ghost use Rattle.snapshot_ops.specs.Cases.{bad_among, unknown_among, unknown_repo};
 
 use ap_text::Name;
 use control_stanza::Text;
-use machine_state::{ChangeFault, Kind, Refusal, Repo, Snapshot, State, in_use};
+use machine_state::{ChangeFault, Kind, Refusal, Repo, State, in_use};
+use snapshot_pull::there;
 use std::alloc::Global;
 use step_model::name_of;
 
@@ -23,33 +24,6 @@ pub(crate) fn names_of(alloc: Global, texts: &[Text]) -> Result<Vec<Name>, Chang
         names.push(name_of(alloc, &texts[i])?)?;
     }
     Ok(names)
-}
-
-/// No snapshot has the name yet. One that is taken is refused.
-pub(crate) fn free(alloc: Global, state: &State, name: &Name) -> Result<(), ChangeFault>
-    ensures good { Valid state.now → OnOk result (taken state.now.snapshots name.now ≡ None) }
-    ensures fault { Valid state.now → IfErr result (IsFirst (taken state.now.snapshots name.now)) }
-{
-    match state.snapshot(name) {
-        None => Ok(()),
-        Some(_) => Err(ChangeFault::Refused(Refusal::Exists(Kind::Snapshot, name.copy(alloc)?))),
-    }
-}
-
-/// The snapshot of this name. Where there is none it is unknown.
-pub(crate) fn there<'a>(
-    alloc: Global,
-    state: &'a State,
-    name: &Name,
-) -> Result<&'a Snapshot, ChangeFault>
-    ensures good { Valid state.now → OnOk result (unknown state.now.snapshots name.now ≡ None) }
-    ensures fault { Valid state.now → IfErr result (IsFirst (unknown state.now.snapshots name.now)) }
-    ensures found { Valid state.now → IfOk result (λ snapshot. snapshot_of name.now state.now.snapshots ≡ Some snapshot.now) }
-{
-    match state.snapshot(name) {
-        Some(snapshot) => Ok(snapshot),
-        None => Err(ChangeFault::Refused(Refusal::Unknown(Kind::Snapshot, name.copy(alloc)?))),
-    }
 }
 
 /// Each of these snapshots is there. The first that isn't is unknown.

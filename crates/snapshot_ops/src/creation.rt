@@ -1,37 +1,23 @@
 //! New snapshots.
-ghost use Rattle.std.specs.Prelude.{◌≡◌, List, ℕ, length, IfOk, IfErr, None, Some};
+ghost use Rattle.std.specs.Prelude.{◌≡◌, List, ℕ, IfOk, IfErr, None};
 ghost use Rattle.command_value.specs.declared.command.Origin.{Origin as OriginOf};
 ghost use Rattle.command_value.specs.Plain.{plain, of_snapshot, snapshot_create};
 ghost use Rattle.machine_state.specs.State.{Valid};
-ghost use Rattle.step_model.specs.Answers.{came, FaultIs, IsMemory};
+ghost use Rattle.step_model.specs.Answers.{came, FaultIs};
 ghost use Rattle.step_model.specs.Case.{refuses};
 ghost use Rattle.snapshot_ops.specs.Answers.{IsDone, IsOther, IsRefused};
-ghost use Rattle.snapshot_ops.specs.Cases.{copy_case, created as created_in, empty_case, snapshot_case, snapshot_from, taken, with_snapshot};
-ghost use Rattle.snapshot_ops.specs.Replies.{snapshot_created as created_line};
+ghost use Rattle.snapshot_ops.specs.Cases.{copy_case, created as created_in, empty_case, snapshot_case, taken};
 
 use crate::early::{copy_early, empty_early};
 use crate::replies::snapshot_created;
 use ap_text::Name;
 use command_value::{Command, Origin};
 use control_stanza::Text;
-use machine_state::{Change, ChangeFault, Limit, Refusal, Snapshot, State, put_named};
+use machine_state::{Change, ChangeFault, Refusal, State};
 use package_list::PackageList;
 use query_eval::Patterns;
+use snapshot_pull::made;
 use std::alloc::Global;
-
-/// Puts a snapshot at its place among the others.
-fn put_snapshot(alloc: Global, state: &State, snapshot: Snapshot) -> Result<Change, ChangeFault>
-    ensures same { Valid state.now → IfOk result (λ change. change ≡ record { state = Some (with_snapshot state.now snapshot); reply = created_line snapshot.name (length snapshot.list) }) }
-    ensures fits { IfErr result IsMemory }
-{
-    let reply = snapshot_created(alloc, &snapshot.name, snapshot.list.len() as u64)?;
-    let mut state = state.copy(alloc)?;
-    put_named(&mut state.snapshots, snapshot)?;
-    Ok(Change {
-        state: Some(state),
-        reply,
-    })
-}
 
 /// Makes a snapshot of this name and this list, where there is room for one more.
 pub(crate) fn created(
@@ -44,10 +30,8 @@ pub(crate) fn created(
     ensures fault { IfErr result (FaultIs (λ refusal. created_in state.now name list ≡ refuses refusal)) }
     ensures new { taken state.now.snapshots name ≡ None → IsOther state.now result }
 {
-    if state.snapshots.len() as u64 >= Limit::Snapshots.number() {
-        return Err(ChangeFault::Refused(Refusal::Limit(Limit::Snapshots)));
-    }
-    put_snapshot(alloc, state, Snapshot { name, list })
+    let reply = snapshot_created(alloc, &name, list.len() as u64)?;
+    made(alloc, state, name, list, reply)
 }
 
 /// Makes an empty snapshot.

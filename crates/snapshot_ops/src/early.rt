@@ -4,10 +4,11 @@ ghost use Rattle.machine_state.specs.State.{Valid, repo_of, snapshot_of};
 ghost use Rattle.step_model.specs.Answers.{IsFirst};
 ghost use Rattle.snapshot_ops.specs.Cases.{bad_copy, bad_drop, bad_empty, bad_filter, bad_merge, bad_rename, bad_snapshot};
 
-use crate::checks::{all_there, free, names_of, repo_there, there, unused};
+use crate::checks::{all_there, names_of, repo_there, unused};
 use ap_text::Name;
 use control_stanza::Text;
 use machine_state::{ChangeFault, Repo, Snapshot, State};
+use snapshot_pull::{free, there};
 use std::alloc::Global;
 use step_model::name_of;
 

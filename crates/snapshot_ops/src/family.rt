@@ -17,6 +17,7 @@ use command_value::{Command, Follow, Origin, is_following};
 use control_stanza::Text;
 use machine_state::{Change, ChangeFault, Refusal, State};
 use query_eval::Patterns;
+use snapshot_pull::{pull, pull_needs};
 use std::alloc::Global;
 use step_model::{Reading, prepared, prepared_all};
 
@@ -215,6 +216,23 @@ pub fn needs<M: Patterns>(
             sources,
             ..
         } => merge_needs(alloc, state, destination, sources),
+        Command::SnapshotPull {
+            follow,
+            name,
+            source,
+            destination,
+            queries,
+            ..
+        } => pull_needs(
+            alloc,
+            state,
+            follow,
+            name,
+            source,
+            destination,
+            queries,
+            patterns,
+        ),
         Command::SnapshotSearch {
             with_deps,
             follow,
@@ -250,6 +268,7 @@ pub fn change<M: Patterns>(
         Command::SnapshotShow { .. } => show(alloc, state, command, patterns),
         Command::SnapshotFilter { .. } => filter(alloc, state, command, patterns),
         Command::SnapshotMerge { .. } => merge(alloc, state, command, patterns),
+        Command::SnapshotPull { .. } => pull(alloc, state, command, patterns),
         Command::SnapshotSearch { .. } => search(alloc, state, command, patterns),
         Command::SnapshotRename { .. } => rename(alloc, state, command, patterns),
         Command::SnapshotDrop { .. } => drop(alloc, state, command, patterns),

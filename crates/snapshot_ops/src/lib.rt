@@ -20,4 +20,5 @@ pub use lawful::snapshot_cases_are_lawful;
 pub use merging::merge;
 pub use naming::{drop, rename};
 pub use shown::{list, show};
+pub use snapshot_pull::pull;
 pub use way::Way;

@@ -8,7 +8,6 @@ ghost use Rattle.snapshot_ops.specs.Answers.{IsDone, IsOther, IsRefused};
 ghost use Rattle.snapshot_ops.specs.Cases.{list_of, merge_case, snapshot_case, unknown_among};
 ghost use Rattle.snapshot_ops.specs.Merges.{IsJoinRefusal, join_answer, joined_so, merge_of};
 
-use crate::checks::there;
 use crate::creation::created;
 use crate::early::merge_early;
 use crate::way::{Way, way_for};
@@ -18,6 +17,7 @@ use control_stanza::Text;
 use machine_state::{Change, ChangeFault, Limit, Refusal, State};
 use package_list::{ListFault, PackageList};
 use query_eval::Patterns;
+use snapshot_pull::there;
 use std::alloc::Global;
 
 /// Joins a source to those before it. A fault leaves these as they were.

@@ -1,24 +1,18 @@
-use Rattle.std.proofs.Common.{ap, arith, length}
+use Rattle.std.proofs.Common.{◌∙◌, ap}
 use Rattle.std.proofs.lemmas.Result.{IfOk-weaker}
-use Rattle.machine_state.specs.Values.{StateView}
-use Rattle.step_model.proofs.FaultLemmas.{err_map, fault_memory}
-use Rattle.snapshot_ops.proofs.NewLemmas.{created_fits, created_full, created_new}
+use Rattle.step_model.proofs.FaultLemmas.{err_map, fault_map}
+use Rattle.snapshot_ops.proofs.NewLemmas.{created_so}
+use Rattle.snapshot_ops.specs.Replies as own
 use Rattle.snapshot_ops.proofs.creation.created.Goals as goal
-
-pub returns-then-len-number-clause-fault : goal.returns-then-len-number-clause-fault
-returns-then-len-number-clause-fault c =
-    let count = ap (λ (s : StateView). length s.snapshots) c.state.view_is in
-    created_full c.args.state.now c.args.name c.args.list (omega (arith, c.if-len-number.true, c.len.ensures, c.number.ensures, count, c.state.inside.snapshots.ok.0))
 
 pub returns-clause-comes : goal.returns-clause-comes
 returns-clause-comes c = λ v.
-    let count = ap (λ (s : StateView). length s.snapshots) c.state.view_is in
-    IfOk-weaker c.put_snapshot.result _ _
-    (λ change e. created_fits c.args.state.now c.args.name c.args.list change (omega (arith, c.if-len-number.false, c.len.ensures, c.number.ensures, count, c.state.inside.snapshots.ok.0)) e)
-    (c.put_snapshot.ensures.same v)
+    IfOk-weaker c.made.result _ _
+    (λ change h. created_so c.args.state.now c.args.name c.args.list c.in_ok-reply.reply (c.in_ok-reply.ensures ∙ ap (own.snapshot_created c.args.name) c.len.ensures) ∙ h)
+    (c.made.ensures.comes v)
 
 pub returns-clause-fault : goal.returns-clause-fault
-returns-clause-fault c = err_map c.put_snapshot.result _ _ (λ fault h. fault_memory _ fault h) c.put_snapshot.ensures.fits
-
-pub returns-clause-new : goal.returns-clause-new
-returns-clause-new c = λ free v. IfOk-weaker c.put_snapshot.result _ _ (λ change e. created_new c.args.state.now c.args.name c.args.list change e free) (c.put_snapshot.ensures.same v)
+returns-clause-fault c =
+    err_map c.made.result _ _
+    (λ fault h. fault_map _ _ fault (λ refusal e. created_so c.args.state.now c.args.name c.args.list c.in_ok-reply.reply (c.in_ok-reply.ensures ∙ ap (own.snapshot_created c.args.name) c.len.ensures) ∙ e) h)
+    c.made.ensures.fault

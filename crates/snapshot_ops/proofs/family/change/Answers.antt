@@ -3,6 +3,7 @@ use Rattle.command_value.specs.Plain.{plain, snapshot_list}
 use Rattle.machine_state.specs.declared.refusal.Refusal.TheVariants.{NotBuilt}
 use Rattle.step_model.proofs.RefusalLemmas.{refuses_first}
 use Rattle.step_model.proofs.FaultLemmas.{err_map, fault_memory, fault_along, fault_told, ok_along, refused_along}
+use Rattle.snapshot_ops.specs.Cases.{snapshot_case}
 use Rattle.snapshot_ops.proofs.CaseLemmas.{case_along, other_early}
 use Rattle.snapshot_ops.proofs.family.change.Goals as goal
 
@@ -46,6 +47,18 @@ returns-in-SnapshotMerge-clause-fault g c = λ k e arrived v.
     let is = ap plain c.in-SnapshotMerge.is in
     fault_told _ _ _ _ arrived c.merge.result (fault_along None _ _ arrived c.merge.result (case_along c.args.state.now c.args.command.now k _ e is) (c.merge.ensures.fault _ _ _ _ is arrived v))
 
+pub returns-in-SnapshotPull-clause-ok : goal.returns-in-SnapshotPull-clause-ok
+unfolding snapshot_case
+returns-in-SnapshotPull-clause-ok g c = λ k e arrived v.
+    let is = ap plain c.in-SnapshotPull.is in
+    ok_along None c.args.state.now _ _ arrived c.pull.result (case_along c.args.state.now c.args.command.now k _ e is) (c.pull.ensures.ok _ _ _ _ _ _ _ _ _ is arrived v)
+
+pub returns-in-SnapshotPull-clause-fault : goal.returns-in-SnapshotPull-clause-fault
+unfolding snapshot_case
+returns-in-SnapshotPull-clause-fault g c = λ k e arrived v.
+    let is = ap plain c.in-SnapshotPull.is in
+    refused_along _ _ _ _ _ arrived c.pull.result (case_along c.args.state.now c.args.command.now k _ e is) (c.pull.ensures.fault _ _ _ _ _ _ _ _ _ is arrived v)
+
 pub returns-in-SnapshotSearch-clause-ok : goal.returns-in-SnapshotSearch-clause-ok
 returns-in-SnapshotSearch-clause-ok g c = λ k e arrived v.
     let is = ap plain c.in-SnapshotSearch.is in
@@ -86,4 +99,4 @@ returns-in-SnapshotList-clause-fault g c = λ k e arrived v. err_map c.list.resu
 pub returns-in_default-clause-fault : goal.returns-in_default-clause-fault
 returns-in_default-clause-fault g c = λ k e arrived v.
     let d = c.in_default in
-    (None, tt, inl (refuses_first None _ NotBuilt (other_early c.args.command.now d.not-SnapshotCreate d.not-SnapshotList d.not-SnapshotShow d.not-SnapshotFilter d.not-SnapshotMerge d.not-SnapshotSearch d.not-SnapshotRename d.not-SnapshotDrop c.args.state.now k e)))
+    (None, tt, inl (refuses_first None _ NotBuilt (other_early c.args.command.now d.not-SnapshotCreate d.not-SnapshotList d.not-SnapshotShow d.not-SnapshotFilter d.not-SnapshotMerge d.not-SnapshotPull d.not-SnapshotSearch d.not-SnapshotRename d.not-SnapshotDrop c.args.state.now k e)))

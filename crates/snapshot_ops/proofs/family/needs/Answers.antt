@@ -1,5 +1,5 @@
 use Rattle.std.proofs.Common.{◌∙◌, ℕ, List, ap, subst, sym, None, Some}
-use Rattle.command_value.specs.Plain.{plain, plain_follow, of_snapshot, snapshot_filter, snapshot_list, snapshot_merge}
+use Rattle.command_value.specs.Plain.{plain, plain_follow, of_snapshot, snapshot_filter, snapshot_list, snapshot_merge, snapshot_pull}
 use Rattle.machine_state.specs.declared.refusal.Refusal.TheVariants.{NotBuilt}
 use Rattle.step_model.specs.declared.reading.Reading.TheVariants as readings
 use Rattle.step_model.proofs.RefusalLemmas.{refuses_first}
@@ -82,6 +82,14 @@ pub returns-in-SnapshotFilter-clause-fault : goal.returns-in-SnapshotFilter-clau
 unfolding snapshot_case
 returns-in-SnapshotFilter-clause-fault g c = λ k e v. told_along _ _ _ _ _ c.filter_plain_needs.result (case_along c.args.state.now c.args.command.now k _ e (ap plain c.in-SnapshotFilter.is ∙ ap (λ (q : List (List ℕ)). of_snapshot (snapshot_filter c.in-SnapshotFilter.with_deps (plain_follow c.in-SnapshotFilter.follow) c.in-SnapshotFilter.source c.in-SnapshotFilter.destination q)) (sym c.deref.ensures.value))) (c.filter_plain_needs.ensures.fault v)
 
+pub returns-in-SnapshotPull-clause-ok : goal.returns-in-SnapshotPull-clause-ok
+unfolding snapshot_case
+returns-in-SnapshotPull-clause-ok g c = λ k e v. wanted_along None _ _ c.pull_needs.result (case_along c.args.state.now c.args.command.now k _ e (ap plain c.in-SnapshotPull.is ∙ ap (λ (q : List (List ℕ)). of_snapshot (snapshot_pull c.in-SnapshotPull.all_matches c.in-SnapshotPull.dry_run c.in-SnapshotPull.no_deps c.in-SnapshotPull.no_remove (plain_follow c.in-SnapshotPull.follow) c.in-SnapshotPull.name c.in-SnapshotPull.source c.in-SnapshotPull.destination q)) (sym c.deref-in-SnapshotPull.ensures.value))) (c.pull_needs.ensures.ok _ _ v)
+
+pub returns-in-SnapshotPull-clause-fault : goal.returns-in-SnapshotPull-clause-fault
+unfolding snapshot_case
+returns-in-SnapshotPull-clause-fault g c = λ k e v. told_along _ _ _ _ _ c.pull_needs.result (case_along c.args.state.now c.args.command.now k _ e (ap plain c.in-SnapshotPull.is ∙ ap (λ (q : List (List ℕ)). of_snapshot (snapshot_pull c.in-SnapshotPull.all_matches c.in-SnapshotPull.dry_run c.in-SnapshotPull.no_deps c.in-SnapshotPull.no_remove (plain_follow c.in-SnapshotPull.follow) c.in-SnapshotPull.name c.in-SnapshotPull.source c.in-SnapshotPull.destination q)) (sym c.deref-in-SnapshotPull.ensures.value))) (c.pull_needs.ensures.fault _ _ v)
+
 pub returns-in-SnapshotSearch-clause-ok : goal.returns-in-SnapshotSearch-clause-ok
 unfolding snapshot_case
 returns-in-SnapshotSearch-clause-ok g c = λ k e v. wanted_along None _ _ c.search_plain_needs.result (case_along c.args.state.now c.args.command.now k _ e (ap plain c.in-SnapshotSearch.is)) (c.search_plain_needs.ensures.ok v)
@@ -96,4 +104,4 @@ returns-in-SnapshotList-clause-ok g c = λ k e v. subst (λ (q : Case). IsWanted
 pub returns-in_default-clause-fault : goal.returns-in_default-clause-fault
 returns-in_default-clause-fault g c = λ k e v.
     let d = c.in_default in
-    (None, tt, refuses_first None _ NotBuilt (other_early c.args.command.now d.not-SnapshotCreate d.not-SnapshotList d.not-SnapshotShow d.not-SnapshotFilter d.not-SnapshotMerge d.not-SnapshotSearch d.not-SnapshotRename d.not-SnapshotDrop c.args.state.now k e))
+    (None, tt, refuses_first None _ NotBuilt (other_early c.args.command.now d.not-SnapshotCreate d.not-SnapshotList d.not-SnapshotShow d.not-SnapshotFilter d.not-SnapshotMerge d.not-SnapshotPull d.not-SnapshotSearch d.not-SnapshotRename d.not-SnapshotDrop c.args.state.now k e))
