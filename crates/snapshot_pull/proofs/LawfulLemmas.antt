@@ -21,12 +21,11 @@ use Rattle.package_choice.specs.Choice.{bad_follow}
 use Rattle.package_choice.proofs.ChoiceLemmas.{own_follow}
 use Rattle.reply_text.specs.DryRuns.{coming_line, dry_run_of, going_line}
 use Rattle.step_model.specs.declared.reading.Reading.TheVariants as readings
-use Rattle.step_model.specs.Case.{changes, or_else}
 use Rattle.step_model.specs.Names.{bad_name}
-use Rattle.step_model.specs.Lawful.{CommandLaw, IsLawful}
+use Rattle.step_model.specs.Lawful.{IsOwn, CommandLaw, IsLawful}
 use Rattle.step_model.specs.Refuses.{IsReadable, reading}
 use Rattle.step_model.proofs.OwnLemmas.{Own, first_none, own_else, own_name, second_none}
-use Rattle.snapshot_pull.specs.Pulls.{MayArrive, bad_ends, bad_pull, became, came_or, or_refused, pull_case, pulled_onto, taken_for}
+use Rattle.snapshot_pull.specs.Pulls.{MayArrive, bad_ends, bad_pull, became, came_or, or_refused, pull_case, pulled_onto, taken_for, too_long}
 use Rattle.snapshot_pull.specs.Replies.{snapshot_pulled}
 use Rattle.snapshot_pull.specs.Snapshots.{list_of, taken, unknown}
 use Rattle.snapshot_pull.proofs.JoinLemmas.{named_merged}
@@ -57,6 +56,14 @@ dry_run_some going coming = behind_some (flat_map going_line going) _ (behind_so
 
 -- ---- what is made
 
+-- no refusal of a limit is of a pattern
+own_limit : (b : Bool) → IsOwn (if b then Limit limits.Snapshots else Limit limits.Packages)
+own_limit true = tt
+own_limit false = tt
+
+own_too_long : (state : StateView) → IsOwn (too_long state)
+own_too_long state = own_limit _
+
 -- what comes to a list by name, where it can
 named_pulled : (known base more : List Card) (remove : Bool) → IsNamedList known base → IsNamedList known more → pulls.pull_answer remove base more ≡ Ok tt → IsNamedList known (pulls.pulled remove base more)
 named_pulled known base more true n m h = named_merged known base more n m h
@@ -70,11 +77,11 @@ module _ (state : StateView) (early : Option Refusal) (good : Own early) (destin
   onto_keeps : (dry remove : Bool) (more : List Card) → (Valid state → IsNamedList state.known base) → (Valid state → IsNamedList state.known more) → Keeps state early (pulled_onto state dry remove destination base more)
   onto_keeps dry remove more n m = by_answer (pulls.pull_answer remove base more) refl
     where
-      by_answer : (r : Result (Unit {0}) ListFault) → pulls.pull_answer remove base more ≡ r → Keeps state early (came_or (or_refused r) (became state dry destination base (pulls.pulled remove base more)))
+      by_answer : (r : Result (Unit {0}) ListFault) → pulls.pull_answer remove base more ≡ r → Keeps state early (came_or (or_refused state r) (became state dry destination base (pulls.pulled remove base more)))
       by_answer (Ok u) e = became_keeps dry (pulls.pulled remove base more) (λ v first. named_pulled state.known base more remove (n v) (m v) e)
       by_answer (Err (faults.Conflict triple)) e = refusing state early (Conflict triple) tt good
-      by_answer (Err faults.Full) e = refusing state early (Limit limits.Packages) tt good
-      by_answer (Err faults.OutOfMemory) e = refusing state early (Limit limits.Packages) tt good
+      by_answer (Err faults.Full) e = refusing state early (too_long state) (own_too_long state) good
+      by_answer (Err faults.OutOfMemory) e = refusing state early (too_long state) (own_too_long state) good
 
 -- ---- the command
 

@@ -1,5 +1,5 @@
 -- What pulls come to, by how it goes.
-use Rattle.std.proofs.Common.{◌≡◌, ◌∙◌, ◌++◌, ℕ, List, [], ◌∷◌, length, map, Option, Some, None, Bool, true, false, Result, Ok, Err, refl, sym, ap}
+use Rattle.std.proofs.Common.{◌≡◌, ◌∙◌, ◌++◌, ℕ, List, length, map, Option, Some, None, Bool, false, Result, Ok, Err, refl, sym, ap}
 use Rattle.std.specs.Result.{OnOk}
 use Rattle.package_core.specs.Card.{Card}
 use Rattle.package_list.specs.Lists.{without}
@@ -20,12 +20,12 @@ use Rattle.machine_state.specs.Values.{StateView}
 use Rattle.package_choice.specs.Choice.{archs_for, bad_follow}
 use Rattle.package_choice.proofs.ChoiceLemmas.{trees_are}
 use Rattle.reply_text.specs.DryRuns.{dry_run_of}
-use Rattle.step_model.specs.Case.{Case, Came, changes, refuses, or_else, unbuilt}
+use Rattle.step_model.specs.Case.{Case, changes, refuses, or_else, unbuilt}
 use Rattle.step_model.specs.Names.{bad_name}
 use Rattle.step_model.proofs.OwnLemmas.{first_none, second_none}
-use Rattle.snapshot_pull.specs.Pulls.{bad_ends, bad_pull, became, came_or, flags_of, or_refused, pull_case, pulled_onto, taken_for}
+use Rattle.snapshot_pull.specs.Pulls.{bad_pull, became, came_or, flags_of, or_refused, pull_case, pulled_onto, taken_for}
 use Rattle.snapshot_pull.specs.Replies.{snapshot_pulled}
-use Rattle.snapshot_pull.specs.Snapshots.{list_in, list_of, made, taken, unknown, where_room}
+use Rattle.snapshot_pull.specs.Snapshots.{list_in, list_of, made, taken, unknown}
 
 -- ---- checks
 
@@ -57,11 +57,11 @@ module _ (state : StateView) (dry remove : Bool) (destination : List ℕ) (base 
   pub onto_came : (list : List Card) → pulls.pull_answer remove base more ≡ Ok tt → list ≡ pulls.pulled remove base more → pulled_onto state dry remove destination base wanted ≡ became state dry destination base list
   onto_came list good is =
       ap (λ (l : List Card). pulled_onto state dry remove destination base l) same
-      ∙ ap (λ (a : Result (Unit {0}) ListFault). came_or (or_refused a) (became state dry destination base (pulls.pulled remove base more))) good
+      ∙ ap (λ (a : Result (Unit {0}) ListFault). came_or (or_refused state a) (became state dry destination base (pulls.pulled remove base more))) good
       ∙ ap (became state dry destination base) (sym is)
 
   -- it can't
-  pub onto_refused : (refusal : Refusal) → or_refused (pulls.pull_answer remove base more) ≡ Err refusal → pulled_onto state dry remove destination base wanted ≡ refuses refusal
+  pub onto_refused : (refusal : Refusal) → or_refused state (pulls.pull_answer remove base more) ≡ Err refusal → pulled_onto state dry remove destination base wanted ≡ refuses refusal
   onto_refused refusal e =
       ap (λ (l : List Card). pulled_onto state dry remove destination base l) same
       ∙ ap (λ (a : Result (Unit {0}) Refusal). came_or a (became state dry destination base (pulls.pulled remove base more))) e

@@ -1,5 +1,5 @@
 -- Valid states with a snapshot more.
-use Rattle.std.proofs.Common.{◌≡◌, ℕ, ◌<◌, Bool, true, List, length, All}
+use Rattle.std.proofs.Common.{◌≡◌, ◌<◌, true, List, length, All}
 use Rattle.ap_text.specs.Names.{is_name}
 use Rattle.machine_state.specs.declared.limit.Kind.TheVariants as kinds
 use Rattle.machine_state.specs.declared.snapshot.Snapshot.{Snapshot}

@@ -1,5 +1,5 @@
 -- What a pull is in a state.
-use Rattle.std.specs.Prelude.{ℕ, ◌++◌, Bool, true, false, not, List, length, Option, Result, Ok, Err, unwrap_or}
+use Rattle.std.specs.Prelude.{ℕ, ◌++◌, Bool, true, false, not, List, length, Option, Result, Ok, Err, nat_le, unwrap_or, if◌then◌else◌}
 use Rattle.ap_host.specs.Disk.{Files}
 use Rattle.package_core.specs.Card.{Card}
 use Rattle.package_list.specs.declared.fault.ListFault.{ListFault}
@@ -8,7 +8,8 @@ use Rattle.package_list.specs.Lists.{without}
 use Rattle.command_value.specs.Plain.{PlainFollow}
 use Rattle.depend_pull.specs.declared.flags.PullFlags.{PullFlags}
 use Rattle.depend_pull.specs.Pull as pulls
-use Rattle.machine_state.specs.declared.limit.Limit.TheVariants.{Packages}
+use Rattle.machine_state.specs.declared.limit.Limit.TheVariants.{Packages, Snapshots}
+use Rattle.machine_state.specs.Limits.{limit_number}
 use Rattle.machine_state.specs.declared.refusal.Refusal.{Refusal}
 use Rattle.machine_state.specs.declared.refusal.Refusal.TheVariants.{Conflict, Limit}
 use Rattle.machine_state.specs.declared.arrived.Arrived.{Arrived}
@@ -23,12 +24,16 @@ use Rattle.snapshot_pull.specs.Snapshots.{list_of, made, taken, unknown, where_r
 
 -- ---- what is refused
 
+-- the limit that is passed where a list would be too long: the first of the limits where there is no room for a snapshot more either
+abbrev pub too_long : StateView → Refusal
+too_long state = if nat_le (limit_number Snapshots) (length state.snapshots) then Limit Snapshots else Limit Packages
+
 -- a list that refuses others refuses so (memory isn't wanted here)
-abbrev pub or_refused : Result (Unit {0}) ListFault → Result (Unit {0}) Refusal
-or_refused (Ok u) = Ok tt
-or_refused (Err (faults.Conflict triple)) = Err (Conflict triple)
-or_refused (Err faults.Full) = Err (Limit Packages)
-or_refused (Err faults.OutOfMemory) = Err (Limit Packages)
+abbrev pub or_refused : StateView → Result (Unit {0}) ListFault → Result (Unit {0}) Refusal
+or_refused state (Ok u) = Ok tt
+or_refused state (Err (faults.Conflict triple)) = Err (Conflict triple)
+or_refused state (Err faults.Full) = Err (too_long state)
+or_refused state (Err faults.OutOfMemory) = Err (too_long state)
 
 -- what a command comes to where it isn't refused so
 abbrev pub came_or : Result (Unit {0}) Refusal → Came → Came
@@ -70,7 +75,7 @@ became state false destination base list = made state (snapshot_pulled destinati
 
 -- what it comes to where these are taken
 abbrev pub pulled_onto : StateView → Bool → Bool → List ℕ → (base more : List Card) → Came
-pulled_onto state dry remove destination base more = came_or (or_refused (pulls.pull_answer remove base more)) (became state dry destination base (pulls.pulled remove base more))
+pulled_onto state dry remove destination base more = came_or (or_refused state (pulls.pull_answer remove base more)) (became state dry destination base (pulls.pulled remove base more))
 
 -- ---- the command
 

@@ -3,6 +3,7 @@ ghost use Rattle.std.specs.Prelude.{◌≡◌, IfOk, IfErr, OnOk, None, Some};
 ghost use Rattle.machine_state.specs.State.{Valid};
 ghost use Rattle.step_model.specs.Answers.{came, FaultIs, IsMemory, IsNew};
 ghost use Rattle.step_model.specs.Case.{Came, refuses};
+ghost use Rattle.snapshot_pull.specs.Pulls.{too_long as too_long_in};
 ghost use Rattle.snapshot_pull.specs.Snapshots.{made as made_in, taken, where_room, with_snapshot};
 
 use ap_text::Name;
@@ -20,6 +21,16 @@ pub(crate) fn room(state: &State) -> Result<(), ChangeFault>
         return Err(ChangeFault::Refused(Refusal::Limit(Limit::Snapshots)));
     }
     Ok(())
+}
+
+/// The refusal of a list that is too long: where there is no room for a snapshot more either, that limit comes first.
+pub(crate) fn too_long(state: &State) -> Refusal
+    ensures { result ≡ too_long_in state.now }
+{
+    if state.snapshots.len() as u64 >= Limit::Snapshots.number() {
+        return Refusal::Limit(Limit::Snapshots);
+    }
+    Refusal::Limit(Limit::Packages)
 }
 
 /// Puts a snapshot at its place among the others.

@@ -14,13 +14,13 @@ ghost use Rattle.snapshot_pull.specs.Pulls.{became as became_in, or_refused, pul
 ghost use Rattle.snapshot_pull.specs.Replies.{snapshot_pulled as pulled_line};
 ghost use Rattle.snapshot_pull.specs.Snapshots.{taken};
 
-use crate::making::{made, room};
+use crate::making::{made, room, too_long};
 use crate::replies::snapshot_pulled;
 use ap_text::Name;
 use command_value::Follow;
 use control_stanza::Text;
 use depend_pull::{PullFlags, Pulled, pull_set};
-use machine_state::{Change, ChangeFault, Limit, Refusal, State};
+use machine_state::{Change, ChangeFault, Refusal, State};
 use package_choice::archs_for_both;
 use package_list::{ListFault, PackageList};
 use query_eval::Prepared;
@@ -30,6 +30,7 @@ use std::alloc::{AllocError, Global};
 /// What is pulled of the source onto the base. It is refused where the base can't take it.
 fn pulled(
     alloc: Global,
+    state: &State,
     base: &PackageList,
     source: &PackageList,
     asked: &[Prepared],
@@ -40,12 +41,12 @@ fn pulled(
     ensures added { IfOk result (λ made. made.added ≡ without made.list base.now) }
     ensures removed { IfOk result (λ made. made.removed ≡ without base.now made.list) }
     ensures good { OnOk result (pull_answer flags.now.remove base.now (taken_by flags.now archs.now base.now source.now asked.now) ≡ Ok tt) }
-    ensures fault { IfErr result (FaultIs (λ refusal. or_refused (pull_answer flags.now.remove base.now (taken_by flags.now archs.now base.now source.now asked.now)) ≡ Err refusal)) }
+    ensures fault { IfErr result (FaultIs (λ refusal. or_refused state.now (pull_answer flags.now.remove base.now (taken_by flags.now archs.now base.now source.now asked.now)) ≡ Err refusal)) }
 {
     match pull_set(alloc, base, source, asked, flags, archs) {
         Ok(made) => Ok(made),
         Err(ListFault::Conflict(triple)) => Err(ChangeFault::Refused(Refusal::Conflict(triple))),
-        Err(ListFault::Full) => Err(ChangeFault::Refused(Refusal::Limit(Limit::Packages))),
+        Err(ListFault::Full) => Err(ChangeFault::Refused(too_long(state))),
         Err(ListFault::OutOfMemory) => Err(ChangeFault::OutOfMemory),
     }
 }
@@ -132,6 +133,6 @@ pub(crate) fn pull_onto(
     ensures new { taken state.now.snapshots destination ≡ None → Valid state.now → IfOk result (λ told. IsNew state.now told.state) }
 {
     let archs = archs_for_both(alloc, follow, base, source)?;
-    let change = pulled(alloc, base, source, asked, flags, &archs)?;
+    let change = pulled(alloc, state, base, source, asked, flags, &archs)?;
     became(alloc, state, dry_run, destination, change)
 }

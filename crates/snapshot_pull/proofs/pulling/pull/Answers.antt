@@ -1,5 +1,5 @@
-use Rattle.std.proofs.Common.{◌≡◌, ◌∙◌, ℕ, List, None, ap, sym}
-use Rattle.command_value.specs.Plain.{plain, plain_follow, of_snapshot, snapshot_pull}
+use Rattle.std.proofs.Common.{None, ap, sym}
+use Rattle.command_value.specs.Plain.{plain, plain_follow}
 use Rattle.step_model.proofs.FaultLemmas.{ok_along, refused_along}
 use Rattle.snapshot_pull.proofs.PullLemmas.{case_along, is_pull}
 use Rattle.snapshot_pull.proofs.pulling.pull.Goals as goal
