@@ -2,7 +2,7 @@
 use Rattle.std.specs.Prelude.{ℕ, List, ◌++◌, codes}
 use Rattle.std.specs.Fmt.{decimal}
 use Rattle.reply_text.specs.Words.{line}
-pub use Rattle.reply_text.specs.DryRuns.{going_line, coming_line, dry_run_of}
+unfoldable pub use Rattle.reply_text.specs.DryRuns.{going_line, coming_line, dry_run_of}
 
 -- `Repo local: 1 removed, 0 packages.`
 unfoldable pub repo_removed : List ℕ → ℕ → ℕ → List ℕ
