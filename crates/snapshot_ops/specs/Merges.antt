@@ -6,7 +6,9 @@ use Rattle.package_list.specs.declared.list.TheConstants.{MOST_MEMBERS}
 use Rattle.package_list.specs.Answers.{append_answer, size_answer}
 use Rattle.package_list.specs.Lists.{latest, merged, union}
 use Rattle.machine_state.specs.declared.refusal.Refusal.{Refusal}
-pub use Rattle.snapshot_pull.specs.Pulls.{or_refused}
+use Rattle.package_list.specs.declared.fault.ListFault.TheVariants as faults
+use Rattle.machine_state.specs.declared.limit.Limit.TheVariants.{Packages}
+use Rattle.machine_state.specs.declared.refusal.Refusal.TheVariants.{Conflict, Limit}
 use Rattle.snapshot_ops.specs.declared.way.Way.{Way}
 use Rattle.snapshot_ops.specs.declared.way.Way.TheVariants.{Replacing, Keeping, Latest}
 
@@ -20,6 +22,13 @@ abbrev pub joined_so : Way → List Card → List Card → List Card
 joined_so Replacing own more = merged own more
 joined_so Keeping own more = union own more
 joined_so Latest own more = latest own more
+
+-- a list that refuses others refuses so (memory isn't wanted here)
+abbrev pub or_refused : Result (Unit {0}) ListFault → Result (Unit {0}) Refusal
+or_refused (Ok u) = Ok tt
+or_refused (Err (faults.Conflict triple)) = Err (Conflict triple)
+or_refused (Err faults.Full) = Err (Limit Packages)
+or_refused (Err faults.OutOfMemory) = Err (Limit Packages)
 
 -- whether a source can join those before it: where all stay none may clash, and there may not be too many
 abbrev pub join_answer : Way → List Card → List Card → Result (Unit {0}) ListFault

@@ -25,7 +25,7 @@ use Rattle.step_model.specs.Names.{bad_name}
 use Rattle.step_model.specs.Lawful.{IsOwn, CommandLaw, IsLawful}
 use Rattle.step_model.specs.Refuses.{IsReadable, reading}
 use Rattle.step_model.proofs.OwnLemmas.{Own, first_none, own_else, own_name, second_none}
-use Rattle.snapshot_pull.specs.Pulls.{MayArrive, bad_ends, bad_pull, became, came_or, or_refused, pull_case, pulled_onto, taken_for, too_long}
+use Rattle.snapshot_pull.specs.Pulls.{MayArrive, bad_ends, bad_pull, became, came_or, pull_refused, pull_case, pulled_onto, taken_for, too_long}
 use Rattle.snapshot_pull.specs.Replies.{snapshot_pulled}
 use Rattle.snapshot_pull.specs.Snapshots.{list_of, taken, unknown}
 use Rattle.snapshot_pull.proofs.JoinLemmas.{named_merged}
@@ -77,7 +77,7 @@ module _ (state : StateView) (early : Option Refusal) (good : Own early) (destin
   onto_keeps : (dry remove : Bool) (more : List Card) → (Valid state → IsNamedList state.known base) → (Valid state → IsNamedList state.known more) → Keeps state early (pulled_onto state dry remove destination base more)
   onto_keeps dry remove more n m = by_answer (pulls.pull_answer remove base more) refl
     where
-      by_answer : (r : Result (Unit {0}) ListFault) → pulls.pull_answer remove base more ≡ r → Keeps state early (came_or (or_refused state r) (became state dry destination base (pulls.pulled remove base more)))
+      by_answer : (r : Result (Unit {0}) ListFault) → pulls.pull_answer remove base more ≡ r → Keeps state early (came_or (pull_refused state r) (became state dry destination base (pulls.pulled remove base more)))
       by_answer (Ok u) e = became_keeps dry (pulls.pulled remove base more) (λ v first. named_pulled state.known base more remove (n v) (m v) e)
       by_answer (Err (faults.Conflict triple)) e = refusing state early (Conflict triple) tt good
       by_answer (Err faults.Full) e = refusing state early (too_long state) (own_too_long state) good

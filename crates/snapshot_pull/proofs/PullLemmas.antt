@@ -23,7 +23,7 @@ use Rattle.reply_text.specs.DryRuns.{dry_run_of}
 use Rattle.step_model.specs.Case.{Case, changes, refuses, or_else, unbuilt}
 use Rattle.step_model.specs.Names.{bad_name}
 use Rattle.step_model.proofs.OwnLemmas.{first_none, second_none}
-use Rattle.snapshot_pull.specs.Pulls.{bad_pull, became, came_or, flags_of, or_refused, pull_case, pulled_onto, taken_for}
+use Rattle.snapshot_pull.specs.Pulls.{bad_pull, became, came_or, flags_of, pull_refused, pull_case, pulled_onto, taken_for}
 use Rattle.snapshot_pull.specs.Replies.{snapshot_pulled}
 use Rattle.snapshot_pull.specs.Snapshots.{list_in, list_of, made, taken, unknown}
 
@@ -57,11 +57,11 @@ module _ (state : StateView) (dry remove : Bool) (destination : List ℕ) (base 
   pub onto_came : (list : List Card) → pulls.pull_answer remove base more ≡ Ok tt → list ≡ pulls.pulled remove base more → pulled_onto state dry remove destination base wanted ≡ became state dry destination base list
   onto_came list good is =
       ap (λ (l : List Card). pulled_onto state dry remove destination base l) same
-      ∙ ap (λ (a : Result (Unit {0}) ListFault). came_or (or_refused state a) (became state dry destination base (pulls.pulled remove base more))) good
+      ∙ ap (λ (a : Result (Unit {0}) ListFault). came_or (pull_refused state a) (became state dry destination base (pulls.pulled remove base more))) good
       ∙ ap (became state dry destination base) (sym is)
 
   -- it can't
-  pub onto_refused : (refusal : Refusal) → or_refused state (pulls.pull_answer remove base more) ≡ Err refusal → pulled_onto state dry remove destination base wanted ≡ refuses refusal
+  pub onto_refused : (refusal : Refusal) → pull_refused state (pulls.pull_answer remove base more) ≡ Err refusal → pulled_onto state dry remove destination base wanted ≡ refuses refusal
   onto_refused refusal e =
       ap (λ (l : List Card). pulled_onto state dry remove destination base l) same
       ∙ ap (λ (a : Result (Unit {0}) Refusal). came_or a (became state dry destination base (pulls.pulled remove base more))) e

@@ -29,11 +29,11 @@ abbrev pub too_long : StateView → Refusal
 too_long state = if nat_le (limit_number Snapshots) (length state.snapshots) then Limit Snapshots else Limit Packages
 
 -- a list that refuses others refuses so (memory isn't wanted here)
-abbrev pub or_refused : StateView → Result (Unit {0}) ListFault → Result (Unit {0}) Refusal
-or_refused state (Ok u) = Ok tt
-or_refused state (Err (faults.Conflict triple)) = Err (Conflict triple)
-or_refused state (Err faults.Full) = Err (too_long state)
-or_refused state (Err faults.OutOfMemory) = Err (too_long state)
+abbrev pub pull_refused : StateView → Result (Unit {0}) ListFault → Result (Unit {0}) Refusal
+pull_refused state (Ok u) = Ok tt
+pull_refused state (Err (faults.Conflict triple)) = Err (Conflict triple)
+pull_refused state (Err faults.Full) = Err (too_long state)
+pull_refused state (Err faults.OutOfMemory) = Err (too_long state)
 
 -- what a command comes to where it isn't refused so
 abbrev pub came_or : Result (Unit {0}) Refusal → Came → Came
@@ -75,7 +75,7 @@ became state false destination base list = made state (snapshot_pulled destinati
 
 -- what it comes to where these are taken
 abbrev pub pulled_onto : StateView → Bool → Bool → List ℕ → (base more : List Card) → Came
-pulled_onto state dry remove destination base more = came_or (or_refused state (pulls.pull_answer remove base more)) (became state dry destination base (pulls.pulled remove base more))
+pulled_onto state dry remove destination base more = came_or (pull_refused state (pulls.pull_answer remove base more)) (became state dry destination base (pulls.pulled remove base more))
 
 -- ---- the command
 

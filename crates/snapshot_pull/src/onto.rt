@@ -10,7 +10,7 @@ ghost use Rattle.query_grammar.specs.Said.{query_of};
 ghost use Rattle.reply_text.specs.DryRuns.{dry_run_of};
 ghost use Rattle.step_model.specs.Answers.{came, FaultIs, IsNew};
 ghost use Rattle.step_model.specs.Case.{refuses};
-ghost use Rattle.snapshot_pull.specs.Pulls.{became as became_in, or_refused, pulled_onto, taken_for};
+ghost use Rattle.snapshot_pull.specs.Pulls.{became as became_in, pull_refused, pulled_onto, taken_for};
 ghost use Rattle.snapshot_pull.specs.Replies.{snapshot_pulled as pulled_line};
 ghost use Rattle.snapshot_pull.specs.Snapshots.{taken};
 
@@ -41,7 +41,7 @@ fn pulled(
     ensures added { IfOk result (λ made. made.added ≡ without made.list base.now) }
     ensures removed { IfOk result (λ made. made.removed ≡ without base.now made.list) }
     ensures good { OnOk result (pull_answer flags.now.remove base.now (taken_by flags.now archs.now base.now source.now asked.now) ≡ Ok tt) }
-    ensures fault { IfErr result (FaultIs (λ refusal. or_refused state.now (pull_answer flags.now.remove base.now (taken_by flags.now archs.now base.now source.now asked.now)) ≡ Err refusal)) }
+    ensures fault { IfErr result (FaultIs (λ refusal. pull_refused state.now (pull_answer flags.now.remove base.now (taken_by flags.now archs.now base.now source.now asked.now)) ≡ Err refusal)) }
 {
     match pull_set(alloc, base, source, asked, flags, archs) {
         Ok(made) => Ok(made),
