@@ -15,7 +15,7 @@ use Rattle.machine_state.specs.State.{mirror_of}
 use Rattle.machine_state.specs.Values.{MirrorView, StateView}
 use Rattle.reply_text.specs.Mirrors as replies
 use Rattle.step_model.specs.declared.reading.Reading.TheVariants as readings
-use Rattle.step_model.specs.Case.{Case, Came, asking_case, changes, refuses, plain_case, unbuilt}
+use Rattle.step_model.specs.Case.{Case, Came, asking_case, changes, refuses, or_else, plain_case, unbuilt}
 use Rattle.step_model.specs.Answers.{AreBuilt, ComesTo, FaultIs, IsFirst, IsRefusedFor, IsWanted, Told}
 use Rattle.step_model.proofs.AskingLemmas.{asking_comes}
 use Rattle.step_model.proofs.FaultLemmas.{fault_map}
@@ -122,3 +122,7 @@ pub is_drop : (command : Command) (c : MirrorCommand) → plain command ≡ of_m
 is_drop (commands.MirrorDrop n) c e is not = not n refl
 is_drop command (mirror_drop name) e is not = absurd (cc)
 is_drop command c e is not = absurd is
+
+-- two checks that find nothing
+pub both_none : (a b : Option Refusal) → a ≡ None → b ≡ None → or_else a b ≡ None
+both_none a b e f = (λ i. or_else (e i) (f i))
