@@ -10,7 +10,7 @@ ghost use Rattle.step_model.specs.Case.{refuses};
 ghost use Rattle.mirror_ops.specs.Cases.{IsCreate, create_case, created as created_in, mirror_case, taken, with_mirror};
 
 use crate::early::create_early;
-use crate::settings::filter_of;
+use crate::settings::{filter_of, filtered};
 use command_value::Command;
 use control_stanza::Text;
 use machine_state::{Change, ChangeFault, Limit, Mirror, Refusal, State, put_named};
@@ -63,7 +63,7 @@ fn create_with<M: Patterns>(
     ensures never_falls { M.refusals patterns.old ≤ M.refusals patterns.new }
     ensures kept { KeepsBy M.Patterns patterns.old patterns.new result }
 {
-    let mut mirror = create_early(
+    let bare = create_early(
         alloc,
         state,
         architectures,
@@ -73,9 +73,8 @@ fn create_with<M: Patterns>(
         distribution,
         components,
     )?;
-    mirror.filter = filter_of(alloc, filter, patterns)?;
-    mirror.with_deps = with_deps.unwrap_or(false);
-    created(alloc, state, mirror)
+    let filter = filter_of(alloc, filter, patterns)?;
+    created(alloc, state, filtered(bare, filter, with_deps))
 }
 
 /// `mirror create`: a new mirror that was never updated. Its components and architectures are in the order of their bytes, each once. It

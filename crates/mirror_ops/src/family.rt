@@ -1,5 +1,5 @@
 //! The commands of mirrors, by their verbs.
-ghost use Rattle.std.specs.Prelude.{◌≡◌, ◌≤◌, Bool, IfOk, IfErr, None, Some};
+ghost use Rattle.std.specs.Prelude.{◌≡◌, ◌≤◌, Bool, Option, IfOk, IfErr, None, Some};
 ghost use Rattle.std.specs.Option.{option_map};
 ghost use Rattle.command_value.specs.Plain.{MirrorCommand, plain, of_mirror};
 ghost use Rattle.machine_state.specs.State.{Valid};

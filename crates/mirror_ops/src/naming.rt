@@ -17,16 +17,22 @@ use query_eval::Patterns;
 use reply_text::{mirror_dropped, mirror_renamed};
 use std::alloc::{AllocError, Global};
 
+/// The same mirror under another name.
+fn under(mirror: Mirror, name: Name) -> Mirror
+    ensures { result ≡ called mirror name }
+{
+    let mut mirror = mirror;
+    mirror.name = name;
+    mirror
+}
+
 /// Gives the mirror of the first name the second, and the place of that.
 fn rename_mirror(mirrors: &mut Vec<Mirror>, before: &Name, after: Name) -> Result<(), AllocError>
     ensures { IsAscending mirror_cmp mirrors.old.items → OnOk result (mirrors.new.items ≡ renamed mirror_name called before.now after mirrors.old.items) }
 {
     match take_named(mirrors, before) {
         None => Ok(()),
-        Some(mut mirror) => {
-            mirror.name = after;
-            put_named(mirrors, mirror)
-        }
+        Some(mirror) => put_named(mirrors, under(mirror, after)),
     }
 }
 

@@ -1,9 +1,9 @@
 //! The settings of a mirror.
-ghost use Rattle.std.specs.Prelude.{◌≡◌, ◌≤◌, IfOk, IfErr, OnOk, None};
+ghost use Rattle.std.specs.Prelude.{◌≡◌, ◌≤◌, ℕ, List, Option, IfOk, IfErr, OnOk, None, Some};
 ghost use Rattle.std.specs.Option.{option_map};
 ghost use Rattle.query_tree.specs.Tree.{plain};
 ghost use Rattle.step_model.specs.Answers.{AreBuilt, FaultIs, IsFirst, IsMemory, KeepsBy, QueriesRefuse, ToldBy};
-ghost use Rattle.mirror_ops.specs.Settings.{asked, bad_among, bad_path, bad_settings, bad_text, bare_mirror as bare, filter_tree, in_order, written};
+ghost use Rattle.mirror_ops.specs.Settings.{asked, bad_among, bad_path, bad_settings, bad_text, bare_mirror as bare, filter_tree, filtered as filtered_as, in_order, written};
 ghost use Rattle.mirror_ops.specs.declared.names.Part.TheVariants.{Architecture};
 
 use crate::names::{Part, check_names, names_of};
@@ -100,7 +100,8 @@ pub(crate) fn settings_of(
 
 /// The tree of a text that is a query.
 fn tree_of(alloc: Global, text: &Text) -> Result<Query, ChangeFault>
-    ensures { IfOk result (λ query. Some (plain query) ≡ filter_tree (Some text.now)) }
+    ensures tree { IfOk result (λ query. Some (plain query) ≡ filter_tree (Some text.now)) }
+    ensures fits { IfErr result IsMemory }
 {
     match read_query(alloc, text.as_str()) {
         Ok(query) => Ok(query),
@@ -128,4 +129,14 @@ pub(crate) fn filter_of<M: Patterns>(
             Ok(Some(tree_of(alloc, text)?))
         }
     }
+}
+
+/// The mirror with this filter, and with what that depends on where it is asked for.
+pub(crate) fn filtered(mirror: Mirror, filter: Option<Query>, with_deps: &Option<bool>) -> Mirror
+    ensures { (text : Option (List ℕ)) → option_map plain filter ≡ filter_tree text → result ≡ filtered_as text with_deps.now mirror }
+{
+    let mut mirror = mirror;
+    mirror.filter = filter;
+    mirror.with_deps = with_deps.unwrap_or(false);
+    mirror
 }

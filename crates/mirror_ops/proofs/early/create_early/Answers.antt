@@ -16,10 +16,10 @@ returns-in_err-free-clause-fault c = λ v.
     let mirrors = c.args.state.now.mirrors in
     at_exit c.from_residual-in_err-free.result fault _ c.from_residual-in_err-free.ensures.1
     (second_decides _ (taken mirrors c.args.name.now) fault c.in_ok-mirror.ensures.good
-    (taken_along mirrors _ _ fault (ap (λ (m : MirrorView). m.name) c.in_ok-mirror.ensures.same) (c.in_err-free.ensures.fault v)))
+    (taken_along mirrors _ _ fault (ap (λ (m : MirrorView). m.name) (c.mirror.view_is ∙ c.in_ok-mirror.ensures.same)) (c.in_err-free.ensures.fault v)))
 
 pub returns-clause-good : goal.returns-clause-good
 returns-clause-good c = λ v.
     let mirrors = c.args.state.now.mirrors in
     both_none _ (taken mirrors c.args.name.now) c.in_ok-mirror.ensures.good
-    (ap (λ (m : MirrorView). taken mirrors m.name) (sym c.in_ok-mirror.ensures.same) ∙ c.in_ok-free.ensures.good v)
+    (ap (λ (m : MirrorView). taken mirrors m.name) (sym (c.mirror.view_is ∙ c.in_ok-mirror.ensures.same)) ∙ c.in_ok-free.ensures.good v)
