@@ -14,11 +14,11 @@ use Rattle.mirror_ops.proofs.family.needs.Goals as goal
 
 pub returns-in-MirrorCreate-clause-ok : goal.returns-in-MirrorCreate-clause-ok
 unfolding mirror_case
-returns-in-MirrorCreate-clause-ok g c = λ k e v. wanted_along None _ _ c.create_needs.result (case_along c.args.state.now c.args.command.now k _ e (ap plain c.in-MirrorCreate.is ∙ ap (λ (q : List (List ℕ)). of_mirror (mirror_create (option_map (λ v. v.items) c.in-MirrorCreate.architectures) c.in-MirrorCreate.filter c.in-MirrorCreate.filter_with_deps c.in-MirrorCreate.name c.in-MirrorCreate.archive c.in-MirrorCreate.distribution q)) (sym c.deref.ensures.value))) (c.create_needs.ensures.ok _ v)
+returns-in-MirrorCreate-clause-ok g c = λ k e v. wanted_along None _ _ c.create_needs.result (case_along c.args.state.now c.args.command.now k _ e (ap plain c.in-MirrorCreate.is ∙ ap (λ (q : List (List ℕ)). of_mirror (mirror_create (option_map (λ v. v.items) c.in-MirrorCreate.architectures) c.in-MirrorCreate.filter c.in-MirrorCreate.filter_with_deps c.in-MirrorCreate.name c.in-MirrorCreate.archive c.in-MirrorCreate.distribution q)) (sym c.deref.ensures.value))) (c.create_needs.ensures.ok c.in-MirrorCreate.filter_with_deps v)
 
 pub returns-in-MirrorCreate-clause-fault : goal.returns-in-MirrorCreate-clause-fault
 unfolding mirror_case
-returns-in-MirrorCreate-clause-fault g c = λ k e v. told_along _ _ _ _ _ c.create_needs.result (case_along c.args.state.now c.args.command.now k _ e (ap plain c.in-MirrorCreate.is ∙ ap (λ (q : List (List ℕ)). of_mirror (mirror_create (option_map (λ v. v.items) c.in-MirrorCreate.architectures) c.in-MirrorCreate.filter c.in-MirrorCreate.filter_with_deps c.in-MirrorCreate.name c.in-MirrorCreate.archive c.in-MirrorCreate.distribution q)) (sym c.deref.ensures.value))) (c.create_needs.ensures.fault _ v)
+returns-in-MirrorCreate-clause-fault g c = λ k e v. told_along _ _ _ _ _ c.create_needs.result (case_along c.args.state.now c.args.command.now k _ e (ap plain c.in-MirrorCreate.is ∙ ap (λ (q : List (List ℕ)). of_mirror (mirror_create (option_map (λ v. v.items) c.in-MirrorCreate.architectures) c.in-MirrorCreate.filter c.in-MirrorCreate.filter_with_deps c.in-MirrorCreate.name c.in-MirrorCreate.archive c.in-MirrorCreate.distribution q)) (sym c.deref.ensures.value))) (c.create_needs.ensures.fault c.in-MirrorCreate.filter_with_deps v)
 
 pub returns-in-MirrorShow-clause-ok : goal.returns-in-MirrorShow-clause-ok
 unfolding mirror_case
