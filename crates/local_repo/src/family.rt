@@ -41,7 +41,6 @@ pub fn needs<M: Patterns>(
             removal_needs(alloc, state, name, queries, patterns)
         }
         Command::RepoCopy {
-            with_deps,
             follow,
             source,
             destination,
@@ -50,7 +49,6 @@ pub fn needs<M: Patterns>(
         } => pair_needs(
             alloc,
             state,
-            with_deps,
             follow,
             source,
             destination,
@@ -58,7 +56,6 @@ pub fn needs<M: Patterns>(
             patterns,
         ),
         Command::RepoMove {
-            with_deps,
             follow,
             source,
             destination,
@@ -67,7 +64,6 @@ pub fn needs<M: Patterns>(
         } => pair_needs(
             alloc,
             state,
-            with_deps,
             follow,
             source,
             destination,

@@ -30,19 +30,19 @@ returns-in-RepoRemove-clause-fault g c = λ k e v. told_along _ _ _ _ _ c.remova
 
 pub returns-in-RepoCopy-clause-ok : goal.returns-in-RepoCopy-clause-ok
 unfolding repo_case copy_case
-returns-in-RepoCopy-clause-ok g c = λ k e v. wanted_along None _ _ c.pair_needs.result (case_along c.args.state.now c.args.command.now k _ e (ap plain c.in-RepoCopy.is ∙ ap (λ (q : List (List ℕ)). of_repo (repo_copy c.in-RepoCopy.dry_run c.in-RepoCopy.with_deps (plain_follow c.in-RepoCopy.follow) c.in-RepoCopy.source c.in-RepoCopy.destination q)) (sym c.deref-in-RepoCopy.ensures.value))) (c.pair_needs.ensures.ok _ v)
+returns-in-RepoCopy-clause-ok g c = λ k e v. wanted_along None _ _ c.pair_needs.result (case_along c.args.state.now c.args.command.now k _ e (ap plain c.in-RepoCopy.is ∙ ap (λ (q : List (List ℕ)). of_repo (repo_copy c.in-RepoCopy.dry_run c.in-RepoCopy.with_deps (plain_follow c.in-RepoCopy.follow) c.in-RepoCopy.source c.in-RepoCopy.destination q)) (sym c.deref-in-RepoCopy.ensures.value))) (c.pair_needs.ensures.ok _ _ v)
 
 pub returns-in-RepoCopy-clause-fault : goal.returns-in-RepoCopy-clause-fault
 unfolding repo_case copy_case
-returns-in-RepoCopy-clause-fault g c = λ k e v. told_along _ _ _ _ _ c.pair_needs.result (case_along c.args.state.now c.args.command.now k _ e (ap plain c.in-RepoCopy.is ∙ ap (λ (q : List (List ℕ)). of_repo (repo_copy c.in-RepoCopy.dry_run c.in-RepoCopy.with_deps (plain_follow c.in-RepoCopy.follow) c.in-RepoCopy.source c.in-RepoCopy.destination q)) (sym c.deref-in-RepoCopy.ensures.value))) (c.pair_needs.ensures.fault _ v)
+returns-in-RepoCopy-clause-fault g c = λ k e v. told_along _ _ _ _ _ c.pair_needs.result (case_along c.args.state.now c.args.command.now k _ e (ap plain c.in-RepoCopy.is ∙ ap (λ (q : List (List ℕ)). of_repo (repo_copy c.in-RepoCopy.dry_run c.in-RepoCopy.with_deps (plain_follow c.in-RepoCopy.follow) c.in-RepoCopy.source c.in-RepoCopy.destination q)) (sym c.deref-in-RepoCopy.ensures.value))) (c.pair_needs.ensures.fault _ _ v)
 
 pub returns-in-RepoMove-clause-ok : goal.returns-in-RepoMove-clause-ok
 unfolding repo_case move_case
-returns-in-RepoMove-clause-ok g c = λ k e v. wanted_along None _ _ c.pair_needs-in-RepoMove.result (case_along c.args.state.now c.args.command.now k _ e (ap plain c.in-RepoMove.is ∙ ap (λ (q : List (List ℕ)). of_repo (repo_move c.in-RepoMove.dry_run c.in-RepoMove.with_deps (plain_follow c.in-RepoMove.follow) c.in-RepoMove.source c.in-RepoMove.destination q)) (sym c.deref-in-RepoMove.ensures.value))) (c.pair_needs-in-RepoMove.ensures.ok _ v)
+returns-in-RepoMove-clause-ok g c = λ k e v. wanted_along None _ _ c.pair_needs-in-RepoMove.result (case_along c.args.state.now c.args.command.now k _ e (ap plain c.in-RepoMove.is ∙ ap (λ (q : List (List ℕ)). of_repo (repo_move c.in-RepoMove.dry_run c.in-RepoMove.with_deps (plain_follow c.in-RepoMove.follow) c.in-RepoMove.source c.in-RepoMove.destination q)) (sym c.deref-in-RepoMove.ensures.value))) (c.pair_needs-in-RepoMove.ensures.ok _ _ v)
 
 pub returns-in-RepoMove-clause-fault : goal.returns-in-RepoMove-clause-fault
 unfolding repo_case move_case
-returns-in-RepoMove-clause-fault g c = λ k e v. told_along _ _ _ _ _ c.pair_needs-in-RepoMove.result (case_along c.args.state.now c.args.command.now k _ e (ap plain c.in-RepoMove.is ∙ ap (λ (q : List (List ℕ)). of_repo (repo_move c.in-RepoMove.dry_run c.in-RepoMove.with_deps (plain_follow c.in-RepoMove.follow) c.in-RepoMove.source c.in-RepoMove.destination q)) (sym c.deref-in-RepoMove.ensures.value))) (c.pair_needs-in-RepoMove.ensures.fault _ v)
+returns-in-RepoMove-clause-fault g c = λ k e v. told_along _ _ _ _ _ c.pair_needs-in-RepoMove.result (case_along c.args.state.now c.args.command.now k _ e (ap plain c.in-RepoMove.is ∙ ap (λ (q : List (List ℕ)). of_repo (repo_move c.in-RepoMove.dry_run c.in-RepoMove.with_deps (plain_follow c.in-RepoMove.follow) c.in-RepoMove.source c.in-RepoMove.destination q)) (sym c.deref-in-RepoMove.ensures.value))) (c.pair_needs-in-RepoMove.ensures.fault _ _ v)
 
 pub returns-in_default-clause-ok : goal.returns-in_default-clause-ok
 returns-in_default-clause-ok g c = λ k e v.
