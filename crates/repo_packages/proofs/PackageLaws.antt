@@ -203,12 +203,12 @@ pub copy_law : (dry deps : Option Bool) (follow : PlainFollow) (source destinati
 unfolding copy_case
 copy_law dry deps follow source destination queries = (
   pair_lawful deps follow source destination queries _ (λ state. copy_joins state deps follow source destination queries (unwrap_or dry false)),
-  λ state. pair_read state deps follow source destination queries _,
+  λ state. pair_read state deps follow source destination queries (copying state (unwrap_or dry false) destination (chosen_for state deps follow source queries)),
 )
 
 pub move_law : (dry deps : Option Bool) (follow : PlainFollow) (source destination : List ℕ) (queries : List (List ℕ)) → KeepsTo (λ state. move_case state dry deps follow source destination queries)
 unfolding move_case
 move_law dry deps follow source destination queries = (
   pair_lawful deps follow source destination queries _ (λ state. move_joins state deps follow source destination queries (unwrap_or dry false)),
-  λ state. pair_read state deps follow source destination queries _,
+  λ state. pair_read state deps follow source destination queries (moving state (unwrap_or dry false) source destination (chosen_for state deps follow source queries)),
 )
