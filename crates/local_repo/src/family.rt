@@ -46,30 +46,14 @@ pub fn needs<M: Patterns>(
             destination,
             queries,
             ..
-        } => pair_needs(
-            alloc,
-            state,
-            follow,
-            source,
-            destination,
-            queries,
-            patterns,
-        ),
+        } => pair_needs(alloc, state, follow, source, destination, queries, patterns),
         Command::RepoMove {
             follow,
             source,
             destination,
             queries,
             ..
-        } => pair_needs(
-            alloc,
-            state,
-            follow,
-            source,
-            destination,
-            queries,
-            patterns,
-        ),
+        } => pair_needs(alloc, state, follow, source, destination, queries, patterns),
         _ => named_needs(alloc, state, command),
     }
 }
