@@ -1,14 +1,13 @@
 -- What the commands of snapshots come to, by how it goes.
-use Rattle.std.proofs.Common.{◌≡◌, ℕ, List, Option, Some, None, Bool, true, false, inr, sym, subst, refl, ap, ◌∙◌}
+use Rattle.std.proofs.Common.{◌≡◌, ℕ, List, Option, Some, None, Bool, inr, sym, subst, refl, ap, ◌∙◌}
 use Rattle.std.specs.Option.{is_some}
 use Rattle.std.specs.Global.{Vec}
-use Rattle.std.specs.Bool.{if◌then◌else◌}
 use Rattle.command_value.specs.declared.command.Command.{Command}
 use Rattle.command_value.specs.declared.command.Command.TheVariants as commands
 use Rattle.command_value.specs.declared.command.Follow.{Follow}
 use Rattle.command_value.specs.declared.command.Origin.{Origin}
 use Rattle.command_value.specs.declared.command.Origin.TheVariants as origins
-use Rattle.command_value.specs.Plain.{PlainCommand, PlainFollow, SnapshotCommand, follows, plain, of_snapshot, snapshot_create, snapshot_list, snapshot_show, snapshot_filter, snapshot_merge, snapshot_pull, snapshot_search, snapshot_rename, snapshot_drop}
+use Rattle.command_value.specs.Plain.{PlainCommand, PlainFollow, SnapshotCommand, plain, of_snapshot, snapshot_create, snapshot_list, snapshot_show, snapshot_filter, snapshot_merge, snapshot_pull, snapshot_search, snapshot_rename, snapshot_drop}
 use Rattle.machine_state.specs.declared.limit.Kind.TheVariants as kinds
 use Rattle.machine_state.specs.declared.change.ChangeFault.{ChangeFault}
 use Rattle.machine_state.specs.declared.refusal.Refusal.{Refusal}
@@ -28,7 +27,7 @@ use Rattle.step_model.proofs.FaultLemmas.{fault_map}
 use Rattle.step_model.proofs.RefusalLemmas.{passes, reads_on}
 pub use Rattle.step_model.proofs.OwnLemmas.{first_none, second_none}
 pub use Rattle.snapshot_pull.proofs.CaseLemmas.{asking_told, is_free, is_there, taken_along, unknown_along}
-use Rattle.snapshot_ops.specs.Cases.{copy_case, empty_case, snapshot_case, unknown_repo, without_following}
+use Rattle.snapshot_ops.specs.Cases.{copy_case, empty_case, snapshot_case, unknown_repo}
 
 -- ---- names
 
@@ -52,14 +51,6 @@ module _ (early : Option Refusal) (came : Came) (good : early ≡ None) where
   -- nothing is wanted for it
   pub plain_wanted : IsWanted None (plain_case early came) readings.Nothing
   plain_wanted = (passes None (plain_case early came) good refl refl, sym (reads_on (plain_case early came) good refl))
-
--- ---- commands that may follow dependencies
-
-pub follows_unbuilt : (deps : Option Bool) (follow : PlainFollow) (case : Case) → follows deps follow ≡ true → without_following deps follow case ≡ unbuilt
-follows_unbuilt deps follow case e = ap (λ (b : Bool). if b then unbuilt else case) e
-
-pub follows_not : (deps : Option Bool) (follow : PlainFollow) (case : Case) → follows deps follow ≡ false → without_following deps follow case ≡ case
-follows_not deps follow case e = ap (λ (b : Bool). if b then unbuilt else case) e
 
 -- ---- which command it is
 
