@@ -36,7 +36,7 @@ returns-clause-ok g c = λ arrived v.
     let queries = c.args.queries.now in
     let e = c.in_ok-snapshot.ensures in
     let asked = subst (λ (l : List Tree). map query_of queries ≡ map Ok l) (sym c.deref.ensures.value) c.in_ok-asked.ensures.same in
-    let list = chosen_as state c.args.with_deps.now follow source queries c.in_ok-snapshot.snapshot.now c.in_ok-list.list (e.found v) (c.in_ok-list.ensures queries asked) in
+    let list = chosen_as state c.args.with_deps.now follow source queries _ c.in_ok-list.list (e.found v) (c.in_ok-list.ensures queries asked) in
     IfOk-weaker c.created.result _ _
     (λ change h. asking_comes (bad_filter state follow source to) queries _ arrived _ (e.good v) c.in_ok-asked.ensures.good (created_as state c.in_ok-snapshot.name to c.in_ok-list.list (chosen_for state c.args.with_deps.now follow source queries) e.name list ∙ h))
     (c.created.ensures.comes v)
@@ -50,7 +50,7 @@ returns-clause-fault g c = λ arrived v.
     let queries = c.args.queries.now in
     let e = c.in_ok-snapshot.ensures in
     let asked = subst (λ (l : List Tree). map query_of queries ≡ map Ok l) (sym c.deref.ensures.value) c.in_ok-asked.ensures.same in
-    let list = chosen_as state c.args.with_deps.now follow source queries c.in_ok-snapshot.snapshot.now c.in_ok-list.list (e.found v) (c.in_ok-list.ensures queries asked) in
+    let list = chosen_as state c.args.with_deps.now follow source queries _ c.in_ok-list.list (e.found v) (c.in_ok-list.ensures queries asked) in
     err_map c.created.result _ _
     (λ fault h. asking_told (bad_filter state follow source to) queries _ _ _ _ arrived fault (e.good v) c.in_ok-asked.ensures.good
     (fault_map _ _ fault (λ refusal r. created_as state c.in_ok-snapshot.name to c.in_ok-list.list (chosen_for state c.args.with_deps.now follow source queries) e.name list ∙ r) h))

@@ -31,6 +31,6 @@ returns-clause-ok g c = λ arrived v.
     let name = c.args.name.now in
     let query = c.args.query.now in
     let e = c.in_ok-snapshot.ensures in
-    let chose = chosen_as state deps follow name (query ∷ []) c.in_ok-snapshot.snapshot.now c.in_ok-chosen.chosen (e.found v) (c.in_ok-chosen.ensures query c.in_ok-asked.ensures.same) in
+    let chose = chosen_as state deps follow name (query ∷ []) _ c.in_ok-chosen.chosen (e.found v) (c.in_ok-chosen.ensures query c.in_ok-asked.ensures.same) in
     asking_comes (bad_search state follow name) (query ∷ []) _ arrived _ (e.good v) c.in_ok-asked.ensures.good
     (ap (λ (t : List ℕ). changes t state) (ap package_search (sym chose) ∙ sym c.in_ok-reply.ensures))
