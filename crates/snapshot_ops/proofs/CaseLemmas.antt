@@ -1,28 +1,24 @@
 -- What the commands of snapshots come to, by how it goes.
 use Rattle.std.proofs.Common.{◌≡◌, ℕ, List, Option, Some, None, Bool, inr, sym, subst, refl, ap, ◌∙◌}
-use Rattle.std.specs.Option.{is_some}
 use Rattle.std.specs.Global.{Vec}
 use Rattle.command_value.specs.declared.command.Command.{Command}
 use Rattle.command_value.specs.declared.command.Command.TheVariants as commands
 use Rattle.command_value.specs.declared.command.Follow.{Follow}
 use Rattle.command_value.specs.declared.command.Origin.{Origin}
 use Rattle.command_value.specs.declared.command.Origin.TheVariants as origins
-use Rattle.command_value.specs.Plain.{PlainCommand, PlainFollow, SnapshotCommand, plain, of_snapshot, snapshot_create, snapshot_list, snapshot_show, snapshot_filter, snapshot_merge, snapshot_pull, snapshot_search, snapshot_rename, snapshot_drop}
+use Rattle.command_value.specs.Plain.{PlainCommand, PlainFollow, SnapshotCommand, plain, of_snapshot, snapshot_create, snapshot_list, snapshot_show, snapshot_filter, snapshot_merge, snapshot_search, snapshot_rename, snapshot_drop}
 use Rattle.machine_state.specs.declared.limit.Kind.TheVariants as kinds
 use Rattle.machine_state.specs.declared.change.ChangeFault.{ChangeFault}
 use Rattle.machine_state.specs.declared.refusal.Refusal.{Refusal}
-use Rattle.machine_state.specs.declared.refusal.Refusal.TheVariants.{Exists, Unknown, NotBuilt}
+use Rattle.machine_state.specs.declared.refusal.Refusal.TheVariants.{NotBuilt}
 use Rattle.machine_state.specs.declared.arrived.Arrived.{Arrived}
 use Rattle.machine_state.specs.declared.repo.Repo.{Repo}
-use Rattle.machine_state.specs.declared.snapshot.Snapshot.{Snapshot}
 use Rattle.machine_state.specs.Sources.{in_use}
-use Rattle.machine_state.specs.State.{snapshot_of}
 use Rattle.machine_state.specs.Values.{PublicationView, StateView}
 use Rattle.reply_text.specs.Snapshots as replies
 use Rattle.step_model.specs.declared.reading.Reading.TheVariants as readings
-use Rattle.step_model.specs.Case.{Case, Came, asking_case, changes, refuses, or_else, plain_case, unbuilt}
-use Rattle.step_model.specs.Answers.{AreBuilt, ComesTo, FaultIs, IsFirst, IsRefusedFor, IsWanted, Told}
-use Rattle.step_model.proofs.AskingLemmas.{asking_comes}
+use Rattle.step_model.specs.Case.{Case, Came, changes, refuses, or_else, plain_case, unbuilt}
+use Rattle.step_model.specs.Answers.{ComesTo, FaultIs, IsFirst, IsRefusedFor, IsWanted}
 use Rattle.step_model.proofs.FaultLemmas.{fault_map}
 use Rattle.step_model.proofs.RefusalLemmas.{passes, reads_on}
 pub use Rattle.step_model.proofs.OwnLemmas.{first_none, second_none}

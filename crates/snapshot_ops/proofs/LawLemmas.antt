@@ -1,37 +1,24 @@
 -- What the cases of snapshots keep to.
-use Rattle.std.proofs.Common.{◌≡◌, ◌≢◌, ℕ, List, [], ◌∷◌, ◌++◌, ◌⊎◌, length, map, Option, Some, None, Bool, true, false, cond, Result, Ok, Err, All, refl, sym, ap, subst, arith, rules, inl, find}
+use Rattle.std.proofs.Common.{◌≡◌, ◌≢◌, ℕ, List, [], ◌∷◌, length, map, Option, Some, None, true, Result, Ok, Err, refl, subst, inl}
 use Rattle.std.specs.List.{AllByRecursion}
-use Rattle.std.specs.Option.{IfSome, is_some, option_map}
-use Rattle.std.specs.Bool.{nat_le, if◌then◌else◌}
-use Rattle.std.specs.Str.{bytes_eq}
-use Rattle.std.proofs.lemmas.List.{length-append}
-use Rattle.std.proofs.lemmas.List.Elements.{All-head, All-tail}
+use Rattle.std.specs.Option.{is_some}
 use Rattle.ap_text.specs.Names.{is_name}
 use Rattle.package_core.specs.Card.{Card}
 use Rattle.package_list.specs.declared.fault.ListFault.{ListFault}
 use Rattle.package_list.specs.declared.fault.ListFault.TheVariants as faults
-use Rattle.machine_state.specs.declared.limit.Kind.{Kind}
 use Rattle.machine_state.specs.declared.limit.Kind.TheVariants as kinds
 use Rattle.machine_state.specs.declared.limit.Limit.TheVariants as limits
 use Rattle.machine_state.specs.declared.refusal.Refusal.{Refusal}
-use Rattle.machine_state.specs.declared.refusal.Refusal.TheVariants.{BadName, Conflict, Exists, InUse, Limit, Unknown}
+use Rattle.machine_state.specs.declared.refusal.Refusal.TheVariants.{Conflict, Limit, Unknown}
 use Rattle.machine_state.specs.declared.repo.Repo.{Repo}
 use Rattle.machine_state.specs.declared.snapshot.Snapshot.{Snapshot}
-use Rattle.machine_state.specs.declared.arrived.Arrived.{Arrived}
-use Rattle.machine_state.specs.declared.arrived.Arrived.TheVariants as arrivals
 use Rattle.machine_state.specs.Lists.{IsNamedList}
-use Rattle.machine_state.specs.Named.{named}
-use Rattle.machine_state.specs.Sources.{in_use, uses}
-use Rattle.machine_state.specs.State.{Valid, repo_name, repo_of, snapshot_name, snapshot_of}
-use Rattle.machine_state.specs.Values.{PublicationView, StateView}
+use Rattle.machine_state.specs.State.{Valid, repo_name, repo_of}
+use Rattle.machine_state.specs.Values.{StateView}
 use Rattle.machine_state.proofs.ListLemmas.{named_none}
-use Rattle.reply_text.specs.Words.{line}
-use Rattle.step_model.specs.Case.{Came, asking_case, bad_queries, changes, refuses, or_else, plain_case}
 use Rattle.step_model.specs.Names.{bad_name}
-use Rattle.step_model.specs.Lawful.{IfChanges, IfRefuses, IsFrom, IsLawful, IsOwn}
-use Rattle.step_model.proofs.AskingLemmas.{own_queries}
-use Rattle.step_model.proofs.StepLemmas.{from_known}
-use Rattle.snapshot_ops.specs.Cases.{bad_among, bad_snapshot, created, created_from, list_in, list_of, repo_list_in, repo_list_of, snapshot_from, taken, unknown, unknown_among, unknown_repo, with_snapshot}
+use Rattle.step_model.specs.Lawful.{IsOwn}
+use Rattle.snapshot_ops.specs.Cases.{bad_among, bad_snapshot, created, created_from, list_of, repo_list_in, repo_list_of, unknown, unknown_among, unknown_repo}
 use Rattle.snapshot_ops.specs.Merges.{join_answer, joined_so, merge_behind, or_refused, where_joined}
 use Rattle.snapshot_ops.specs.Replies as own
 use Rattle.snapshot_ops.specs.declared.way.Way.{Way}

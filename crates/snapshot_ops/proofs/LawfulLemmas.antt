@@ -1,5 +1,5 @@
 -- Laws of the cases of snapshots.
-use Rattle.std.proofs.Common.{◌≡◌, ◌≢◌, ℕ, List, [], ◌∷◌, map, ap, Option, Some, None, Bool, true, false, unwrap_or, refl, sym, subst, inl, inr}
+use Rattle.std.proofs.Common.{◌≢◌, ℕ, List, [], ◌∷◌, map, ap, Option, Some, None, Bool, true, false, unwrap_or, refl, inl, inr}
 use Rattle.std.specs.Bool.{if◌then◌else◌}
 use Rattle.command_value.specs.declared.command.Origin.TheVariants as origins
 use Rattle.command_value.specs.Plain.{PlainFollow, SnapshotCommand, snapshot_create, snapshot_list, snapshot_show, snapshot_filter, snapshot_merge, snapshot_pull, snapshot_search, snapshot_rename, snapshot_drop}
@@ -17,7 +17,7 @@ use Rattle.package_choice.proofs.ChoiceLemmas.{kept_for, own_follow}
 use Rattle.reply_text.specs.Replies.{package_search, packages_line}
 use Rattle.reply_text.specs.Snapshots as replies
 use Rattle.step_model.specs.declared.reading.Reading.TheVariants as readings
-use Rattle.step_model.specs.Case.{Case, changes, plain_case, unbuilt}
+use Rattle.step_model.specs.Case.{changes, plain_case}
 use Rattle.step_model.specs.Names.{bad_name}
 use Rattle.step_model.specs.Lawful.{CommandLaw, IsLawful}
 use Rattle.step_model.specs.Refuses.{IsReadable, reading}

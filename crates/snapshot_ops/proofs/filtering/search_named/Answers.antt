@@ -1,4 +1,4 @@
-use Rattle.std.proofs.Common.{◌≡◌, ◌∙◌, ℕ, List, ◌∷◌, [], ap, sym}
+use Rattle.std.proofs.Common.{◌∙◌, ℕ, List, ◌∷◌, [], ap, sym}
 use Rattle.command_value.specs.Plain.{plain_follow}
 use Rattle.reply_text.specs.Replies.{package_search}
 use Rattle.step_model.specs.Case.{changes}
