@@ -1,5 +1,5 @@
 -- The faults of an arrival.
-use Rattle.std.proofs.Common.{◌≡◌, ◌<◌, ℕ, List, [], Some, None, Result, Err, IfErr, refl, sym, subst, arith}
+use Rattle.std.proofs.Common.{◌≡◌, ◌<◌, ℕ, List, [], Some, None, Result, Err, IfErr, refl, sym, subst, subst₂, arith}
 use Rattle.std.specs.Fmt.{decimal}
 use Rattle.ap_host.specs.Disk.{Path}
 use Rattle.digest_set.specs.declared.facts.Digests.{Digests}
@@ -12,7 +12,8 @@ use Rattle.hash_pool.specs.Answers.{IsDifference}
 use Rattle.hash_pool.proofs.AnswerLemmas.{other_size}
 use Rattle.machine_state.specs.declared.limit.Limit.{Limit as LimitKind}
 use Rattle.machine_state.specs.declared.refusal.Refusal.{Refusal}
-use Rattle.machine_state.specs.declared.refusal.Refusal.TheVariants.{InputMismatch}
+use Rattle.machine_state.specs.declared.refusal.Refusal.TheVariants.{InputAbsent, InputMismatch, Limit as OverLimit}
+use Rattle.machine_state.specs.declared.limit.Limit.TheVariants.{Index}
 use Rattle.package_core.specs.Card.{Card}
 use Rattle.package_list.specs.declared.fault.ListFault.{ListFault}
 use Rattle.package_list.specs.declared.fault.ListFault.TheVariants as list_faults
@@ -21,8 +22,8 @@ use Rattle.std.specs.List.{Contains}
 use Rattle.digest_set.specs.Difference.{difference}
 use Rattle.machine_state.specs.declared.arrived.UpdateFault.{UpdateFault}
 use Rattle.machine_state.specs.declared.arrived.UpdateFault.TheVariants as faults
-use Rattle.package_intake.specs.Faults.{AreDifferent, FaultOfFile, FaultOfFiles, IsAnyFault, IsInputFault, IsOfFile, IsOfFiles, IsOtherFault, IsOtherRefusal, IsOwnFault, Tells, list_tells, pool_tells}
-use Rattle.package_intake.specs.Index.{EndsEarlyIf, OfIndex}
+use Rattle.package_intake.specs.Faults.{AreDifferent, FaultOfFile, FaultOfFiles, IsAnyFault, IsInputFault, IsInputLimit, IsOfFile, IsOfFiles, IsOtherFault, IsOtherRefusal, IsOwnFault, Tells, list_tells, pool_tells}
+use Rattle.package_intake.specs.Index.{EndsEarlyIf, IsUnread, IsUnreadFault, OfIndex}
 
 -- a mismatch of a file, as a fault
 pub differs_own : (path : Path) (what : What) (said found : List ℕ) (fault : UpdateFault) → Tells fault (InputMismatch path what said found) → AreDifferent what said found → IsOwnFault fault
@@ -58,11 +59,35 @@ ends_input path n m faults.OutOfMemory lt is = tt
 ends_input path n m faults.HostFault lt is = absurd is
 ends_input path n m faults.InboxFault lt is = absurd is
 
-pub ends_early : (path : Path) (n m : ℕ) (fault : UpdateFault) → m < n → Tells fault (InputMismatch path Size (decimal n) (decimal m)) → OfIndex path fault
-ends_early path n m (faults.Refused refusal) lt is = subst (EndsEarlyIf path) (sym is) (refl, refl, n, m, lt, refl, refl)
-ends_early path n m faults.OutOfMemory lt is = tt
-ends_early path n m faults.HostFault lt is = tt
-ends_early path n m faults.InboxFault lt is = tt
+-- a file that isn't read within a limit
+pub unread_early : (limit : LimitKind) (path : Path) (n m : ℕ) (fault : UpdateFault) → m < n → Tells fault (InputMismatch path Size (decimal n) (decimal m)) → IsUnreadFault limit path fault
+unread_early limit path n m (faults.Refused refusal) lt is = subst (IsUnread limit path) (sym is) (refl, refl, n, m, lt, refl, refl)
+unread_early limit path n m faults.OutOfMemory lt is = tt
+unread_early limit path n m faults.HostFault lt is = absurd is
+unread_early limit path n m faults.InboxFault lt is = absurd is
+
+pub unread_index : (path : Path) (fault : UpdateFault) → IsUnreadFault Index path fault → IsInputFault fault
+unread_index path (faults.Refused refusal) h = by_refusal refusal h
+  where
+    by_refusal : (r : Refusal) → IsUnread Index path r → IsInputFault (faults.Refused r)
+    by_refusal (InputAbsent at) h = tt
+    by_refusal (OverLimit passed) h = subst IsInputLimit (sym h) tt
+    by_refusal (InputMismatch at what said found) h =
+        subst (λ (w : What). AreDifferent w said found) (sym h.1.0) (subst₂ (AreDifferent Size) (sym h.1.1.2.1.0) (sym h.1.1.2.1.1) (lengths_differ h.1.1.0 h.1.1.1 h.1.1.2.0))
+    by_refusal r h = absurd h
+unread_index path faults.OutOfMemory h = tt
+unread_index path faults.HostFault h = absurd h
+unread_index path faults.InboxFault h = tt
+
+pub unread_ends : (limit : LimitKind) (path : Path) (fault : UpdateFault) → IsUnreadFault limit path fault → OfIndex path fault
+unread_ends limit path (faults.Refused refusal) h = by_refusal refusal h
+  where
+    by_refusal : (r : Refusal) → IsUnread limit path r → EndsEarlyIf path r
+    by_refusal (InputMismatch at what said found) h = h
+    by_refusal r h = tt
+unread_ends limit path faults.OutOfMemory h = tt
+unread_ends limit path faults.HostFault h = absurd h
+unread_ends limit path faults.InboxFault h = tt
 
 -- ---- of which file a mismatch is told
 pub differs_file : (path : Path) (told : Said) (what : What) (said found : List ℕ) (fault : UpdateFault) → Tells fault (InputMismatch path what said found) → (is : Digests) → difference told is ≡ Some (what, said, found) → FaultOfFile path told fault
