@@ -1,5 +1,5 @@
 -- The faults of an arrival.
-use Rattle.std.proofs.Common.{◌≡◌, ◌<◌, ℕ, List, [], Some, None, Result, Err, IfErr, refl, sym, subst, subst₂, arith}
+use Rattle.std.proofs.Common.{◌≡◌, ◌<◌, ℕ, List, [], Some, None, Result, Ok, Err, IfErr, refl, sym, subst, subst₂, arith}
 use Rattle.std.specs.Fmt.{decimal}
 use Rattle.ap_host.specs.Disk.{Path}
 use Rattle.digest_set.specs.declared.facts.Digests.{Digests}
@@ -44,8 +44,8 @@ pool_any path said cause faults.HostFault is differs = tt
 pool_any path said cause faults.InboxFault is differs = tt
 
 -- ---- the index
-lengths_differ : (n m : ℕ) → m < n → AreDifferent Size (decimal n) (decimal m)
-lengths_differ n m lt = (said, found, other_size said found (λ e. omega (arith, e, lt)))
+lengths_differ : (n m : ℕ) → (n ≡ m → ⊥) → AreDifferent Size (decimal n) (decimal m)
+lengths_differ n m no = (said, found, other_size said found no)
   where
     said : Said
     said = record { size = n; sha256 = []; sha1 = None; md5 = None }
@@ -53,11 +53,30 @@ lengths_differ n m lt = (said, found, other_size said found (λ e. omega (arith,
     found : Digests
     found = record { size = m; md5 = []; sha1 = []; sha256 = [] }
 
-pub ends_input : (path : Path) (n m : ℕ) (fault : UpdateFault) → m < n → Tells fault (InputMismatch path Size (decimal n) (decimal m)) → IsInputFault fault
-ends_input path n m (faults.Refused refusal) lt is = subst (λ r. IsInputFault (faults.Refused r)) (sym is) (lengths_differ n m lt)
-ends_input path n m faults.OutOfMemory lt is = tt
-ends_input path n m faults.HostFault lt is = absurd is
-ends_input path n m faults.InboxFault lt is = absurd is
+-- of which file a mismatch is told
+pub differs_file : (path : Path) (told : Said) (what : What) (said found : List ℕ) (fault : UpdateFault) → Tells fault (InputMismatch path what said found) → (is : Digests) → difference told is ≡ Some (what, said, found) → FaultOfFile path told fault
+differs_file path told what said found (faults.Refused refusal) t is d = subst (IsOfFile path told) (sym t) (refl, is, d)
+differs_file path told what said found faults.OutOfMemory t is d = tt
+differs_file path told what said found faults.HostFault t is d = tt
+differs_file path told what said found faults.InboxFault t is d = tt
+
+-- a file of another size than is stated
+pub sizes_input : (path : Path) (n m : ℕ) (fault : UpdateFault) → (n ≡ m → ⊥) → Tells fault (InputMismatch path Size (decimal n) (decimal m)) → IsInputFault fault
+sizes_input path n m (faults.Refused refusal) no is = subst (λ r. IsInputFault (faults.Refused r)) (sym is) (lengths_differ n m no)
+sizes_input path n m faults.OutOfMemory no is = tt
+sizes_input path n m faults.HostFault no is = absurd is
+sizes_input path n m faults.InboxFault no is = absurd is
+
+pub sizes_file : (path : Path) (told : Said) (m : ℕ) (fault : UpdateFault) → (told.size ≡ m → ⊥) → Tells fault (InputMismatch path Size (decimal told.size) (decimal m)) → FaultOfFile path told fault
+sizes_file path told m fault no is = differs_file path told Size (decimal told.size) (decimal m) fault is found (other_size told found no)
+  where
+    found : Digests
+    found = record { size = m; md5 = []; sha1 = []; sha256 = [] }
+
+-- what holds of an error and follows
+pub if_err : {X : Type 0} (r : Result X UpdateFault) (P Q : UpdateFault → Type 0) → ((fault : UpdateFault) → P fault → Q fault) → IfErr r P → IfErr r Q
+if_err (Ok x) P Q f h = tt
+if_err (Err fault) P Q f h = f fault h
 
 -- a file that isn't read within a limit
 pub unread_early : (limit : LimitKind) (path : Path) (n m : ℕ) (fault : UpdateFault) → m < n → Tells fault (InputMismatch path Size (decimal n) (decimal m)) → IsUnreadFault limit path fault
@@ -73,7 +92,7 @@ unread_index path (faults.Refused refusal) h = by_refusal refusal h
     by_refusal (InputAbsent at) h = tt
     by_refusal (OverLimit passed) h = subst IsInputLimit (sym h) tt
     by_refusal (InputMismatch at what said found) h =
-        subst (λ (w : What). AreDifferent w said found) (sym h.1.0) (subst₂ (AreDifferent Size) (sym h.1.1.2.1.0) (sym h.1.1.2.1.1) (lengths_differ h.1.1.0 h.1.1.1 h.1.1.2.0))
+        subst (λ (w : What). AreDifferent w said found) (sym h.1) (subst₂ (AreDifferent Size) (sym h.5) (sym h.6) (lengths_differ h.2 h.3 (λ e. omega (arith, e, h.4))))
     by_refusal r h = absurd h
 unread_index path faults.OutOfMemory h = tt
 unread_index path faults.HostFault h = absurd h
@@ -88,13 +107,6 @@ unread_ends limit path (faults.Refused refusal) h = by_refusal refusal h
 unread_ends limit path faults.OutOfMemory h = tt
 unread_ends limit path faults.HostFault h = absurd h
 unread_ends limit path faults.InboxFault h = tt
-
--- ---- of which file a mismatch is told
-pub differs_file : (path : Path) (told : Said) (what : What) (said found : List ℕ) (fault : UpdateFault) → Tells fault (InputMismatch path what said found) → (is : Digests) → difference told is ≡ Some (what, said, found) → FaultOfFile path told fault
-differs_file path told what said found (faults.Refused refusal) t is d = subst (IsOfFile path told) (sym t) (refl, is, d)
-differs_file path told what said found faults.OutOfMemory t is d = tt
-differs_file path told what said found faults.HostFault t is d = tt
-differs_file path told what said found faults.InboxFault t is d = tt
 
 pub pool_file : (path : Path) (told : Said) (cause : PoolFault) (fault : UpdateFault) → pool_tells path cause fault → IsDifference told cause → FaultOfFile path told fault
 pool_file path told pool_faults.Absent (faults.Refused refusal) is d = subst (IsOfFile path told) (sym is) tt

@@ -1,4 +1,4 @@
-use Rattle.std.proofs.Common.{◌≡◌, ◌<◌, ◌≤◌, Some, length, sym, ap, ◌∙◌, arith, subst, Result}
+use Rattle.std.proofs.Common.{◌≡◌, ◌<◌, ◌≤◌, Some, length, sym, ap, ◌∙◌, arith, subst, Result, List, ℕ}
 use Rattle.std.specs.Option.{option_map}
 use Rattle.std.specs.Fmt.{decimal}
 use Rattle.machine_state.specs.declared.limit.Limit.TheVariants.{Index}
@@ -15,3 +15,22 @@ returns-then-size-number-clause-told g c f e =
     let there : Some c.in-Some.size ≡ option_map length (f c.args.path.now) = sym c.in-Some.is ∙ c.in_ok-size.ensures.told f e in
     let large : limit_number Index < c.args.said.now.size = omega (arith, c.if-size-number.true, c.number.ensures) in
     tells_gives c.over.result _ _ c.over.ensures (stated_large c.args.path.now c.args.said.now (f c.args.path.now) c.in-Some.size there large)
+
+pub returns-then-size-size-clause-told : goal.returns-then-size-size-clause-told
+returns-then-size-size-clause-told g c f e =
+    let there : Some c.in-Some.size ≡ option_map length (f c.args.path.now) = sym c.in-Some.is ∙ c.in_ok-size.ensures.told f e in
+    let small : c.args.said.now.size ≤ limit_number Index = omega (arith, c.if-size-number.false, c.number.ensures) in
+    tells_gives c.other_size.result _ _ c.other_size.ensures (stated_other c.args.path.now c.args.said.now (f c.args.path.now) c.in-Some.size there small c.if-size-size.true)
+
+pub returns-then-size-size-clause-fault : goal.returns-then-size-size-clause-fault
+returns-then-size-size-clause-fault g c = sizes_input c.args.path.now c.args.said.now.size c.in-Some.size _ (λ is. c.if-size-size.true (sym is)) c.other_size.ensures
+
+pub returns-then-size-size-clause-mismatch : goal.returns-then-size-size-clause-mismatch
+returns-then-size-size-clause-mismatch g c = sizes_file c.args.path.now c.args.said.now c.in-Some.size _ (λ is. c.if-size-size.true (sym is)) c.other_size.ensures
+
+pub returns-clause-told : goal.returns-clause-told
+returns-clause-told g c f e =
+    let there : Some c.in-Some.size ≡ option_map length (f c.args.path.now) = sym c.in-Some.is ∙ c.in_ok-size.ensures.told f e in
+    let small : c.args.said.now.size ≤ limit_number Index = omega (arith, c.if-size-number.false, c.number.ensures) in
+    let is = stated_read c.args.path.now c.args.said.now (f c.args.path.now) c.in-Some.size c.in_ok-bytes.bytes there small (c.in_ok-bytes.ensures.told f (c.in_ok-size.ensures.map ∙ e)) in
+    subst (λ (r : Result (List ℕ) Refusal). Gives c.agreed.result r) (sym is) c.agreed.ensures.answer

@@ -1,0 +1,116 @@
+-- What the arrival of an archive answers, and what it does to the store.
+use Rattle.std.specs.Prelude.{◌≡◌, ◌⊎◌, ℕ, List, Option, Some, None, Result, Ok, Err}
+use Rattle.std.specs.List.{AllByRecursion}
+use Rattle.std.specs.Option.{ForSome}
+use Rattle.ap_host.specs.declared.host.Op.{Op}
+use Rattle.ap_host.specs.Disk.{Path, Files, Log}
+use Rattle.package_core.specs.Card.{Card}
+use Rattle.package_list.specs.Lists.{joined}
+use Rattle.release_file.specs.declared.listing.Listed.{Listed}
+use Rattle.release_file.specs.Release.{ReleaseView, IsRelease}
+use Rattle.index_text.specs.Index.{ArePackages}
+use Rattle.stage_file.specs.Stage.{StageState}
+use Rattle.machine_state.specs.declared.fetched.Fetched.{Fetched}
+use Rattle.machine_state.specs.declared.limit.Limit.TheVariants.{ReleaseBytes}
+use Rattle.machine_state.specs.declared.refusal.Refusal.{Refusal}
+use Rattle.machine_state.specs.declared.refusal.Refusal.TheVariants.{InputMismatch, Limit}
+use Rattle.machine_state.specs.declared.arrived.Arrived.{Arrived}
+use Rattle.machine_state.specs.declared.arrived.Arrived.TheVariants as arrivals
+use Rattle.machine_state.specs.declared.arrived.UpdateFault.{UpdateFault}
+use Rattle.machine_state.specs.declared.arrived.UpdateFault.TheVariants as faults
+use Rattle.machine_state.specs.Values.{MirrorView, StateView}
+use Rattle.step_model.specs.Refuses.{IsPick}
+use Rattle.ap_text.specs.Paths.{below_folder}
+use Rattle.package_intake.specs.Index.{EndsEarlyIf, IndexEntry, cards_of, path_of}
+use Rattle.package_intake.specs.Faults.{IsInputRefusal, IsOfFile, IsOfFiles}
+use Rattle.package_intake.specs.Additions.{IsFileOf}
+use Rattle.package_intake.specs.Answers.{AddsNamed}
+use Rattle.mirror_update.specs.Fetch.{IsFetched, release_path, distribution_folder}
+use Rattle.mirror_update.specs.Wanted.{stated_of, wanted_indexes}
+use Rattle.mirror_update.specs.Indexes.{IndexesSay}
+use Rattle.mirror_update.specs.Filter.{conditions_of}
+use Rattle.mirror_update.specs.Arrival.{Arrives, chosen_of}
+use Rattle.mirror_update.specs.Fits.{FitsIn}
+
+-- ---- what arrives
+
+-- a refusal of some step of an arrival of an archive
+abbrev pub IsArchiveRefusal : Refusal → Type 0
+IsArchiveRefusal (Limit ReleaseBytes) = Unit {0}
+IsArchiveRefusal refusal = IsInputRefusal refusal
+
+abbrev pub IsArchiveFault : UpdateFault → Type 0
+IsArchiveFault (faults.Refused refusal) = IsArchiveRefusal refusal
+IsArchiveFault fault = Unit {0}
+
+-- Of an inbox that tells its files this comes of the archive. Of another one anything may that fits the state, and any refusal of an arrival.
+abbrev pub FilesArrive : Option Files → StateView → MirrorView → Result Fetched Refusal → Type 0
+FilesArrive (Some files) state mirror (Ok fetched) = Arrives files state.known mirror (Ok fetched) × FitsIn state mirror.name fetched
+FilesArrive (Some files) state mirror (Err refusal) = Arrives files state.known mirror (Err refusal) × IsArchiveRefusal refusal
+FilesArrive None state mirror (Ok fetched) = FitsIn state mirror.name fetched
+FilesArrive None state mirror (Err refusal) = IsArchiveRefusal refusal
+
+-- where the filter's patterns came to this
+abbrev pub PickArrives : Option Refusal → Option Files → StateView → MirrorView → Result Fetched Refusal → Type 0
+PickArrives (Some refusal) inbox state mirror arrived = arrived ≡ Err refusal
+PickArrives None inbox state mirror arrived = FilesArrive inbox state mirror arrived
+
+-- What comes of an update of a mirror in a call whose pattern builder refused this text for its size: the filter's patterns are built
+-- first, and then the archive is read.
+pub record Updates (large : Option (List ℕ)) (inbox : Option Files) (state : StateView) (mirror : MirrorView) (arrived : Result Fetched Refusal) : Type 0 where
+  pub pick : Option Refusal
+  pub legal : IsPick large (conditions_of mirror) pick
+  pub comes : PickArrives pick inbox state mirror arrived
+
+abbrev pub IsArrival : Option (List ℕ) → Option Files → StateView → MirrorView → Arrived → Type 0
+IsArrival large inbox state mirror (arrivals.List list date) = Updates large inbox state mirror (Ok (record { date = date; list = list }))
+IsArrival large inbox state mirror (arrivals.Refused refusal) = Updates large inbox state mirror (Err refusal)
+IsArrival large inbox state mirror arrivals.Nothing = ⊥
+
+-- a call comes to an arrival, unless the outside fails or memory is wanting
+abbrev pub Comes : Option (List ℕ) → Option Files → StateView → MirrorView → Result Arrived UpdateFault → Type 0
+Comes large inbox state mirror (Ok arrivals.Nothing) = ⊥
+Comes large inbox state mirror (Ok (arrivals.Refused refusal)) = ⊥
+Comes large inbox state mirror (Ok (arrivals.List list date)) = IsArrival large inbox state mirror (arrivals.List list date)
+Comes large inbox state mirror (Err (faults.Refused refusal)) = IsArrival large inbox state mirror (arrivals.Refused refusal)
+Comes large inbox state mirror (Err faults.HostFault) = Unit {0}
+Comes large inbox state mirror (Err faults.InboxFault) = Unit {0}
+Comes large inbox state mirror (Err faults.OutOfMemory) = Unit {0}
+
+-- ---- what is named
+
+-- a Release says this
+abbrev pub IsSaid : ReleaseView → Type 0
+IsSaid release = (text : List ℕ) × IsRelease text release
+
+-- The archive has this Release, and its indexes these packages, if the inbox tells. On any inbox they are a Release and packages.
+pub record IsArchive (inbox : Option Files) (mirror : MirrorView) (release : ReleaseView) (entries : List IndexEntry) : Type 0 where
+  pub said : IsSaid release
+  pub packages : ArePackages entries
+  pub fetched : ForSome inbox (λ files. IsFetched files mirror (Ok release))
+  pub indexes : ForSome inbox (λ files. IndexesSay files mirror release (Ok entries))
+
+-- the packages of an archive that the filter chooses
+abbrev pub chosen_in : MirrorView → ReleaseView → List IndexEntry → List Card
+chosen_in mirror release entries = chosen_of mirror release (joined (cards_of entries))
+
+-- these are names of files that are said of packages of an archive that the filter chooses
+abbrev pub AreOfArchive : Option Files → MirrorView → List Path → Type 0
+AreOfArchive inbox mirror paths =
+    (release : ReleaseView) × (entries : List IndexEntry) × IsArchive inbox mirror release entries × AllByRecursion (IsFileOf (chosen_in mirror release entries)) paths
+
+-- The pool has grown by the bodies of what arrived, or of some of it where the call broke off: what is renamed is said of the archive, and
+-- the filter chooses it.
+abbrev pub Adds : Option Files → MirrorView → List Card → Result Arrived UpdateFault → StageState → StageState → Log → List Op → Type 0
+Adds inbox mirror known result old new l ops = AddsNamed (AreOfArchive inbox mirror) inbox known result old new l ops
+
+-- ---- of what a mismatch is told
+
+-- of an index that is wanted of a Release, of which it states this
+pub record IsOfIndex (inbox : Option Files) (mirror : MirrorView) (refusal : Refusal) : Type 0 where
+  pub release : ReleaseView
+  pub said : IsSaid release
+  pub fetched : ForSome inbox (λ files. IsFetched files mirror (Ok release))
+  pub file : Listed
+  pub wanted : (before behind : List Path) → Type 0
+  pub is : IsOfFile (below_folder (distribution_folder mirror) file.path) (stated_of file) refusal
