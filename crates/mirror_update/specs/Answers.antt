@@ -1,6 +1,6 @@
 -- What the arrival of an archive answers, and what it does to the store.
 use Rattle.std.specs.Prelude.{◌≡◌, ◌⊎◌, ℕ, List, Option, Some, None, Result, Ok, Err}
-use Rattle.std.specs.List.{AllByRecursion}
+use Rattle.std.specs.List.{AllByRecursion, Contains}
 use Rattle.std.specs.Option.{ForSome}
 use Rattle.ap_host.specs.declared.host.Op.{Op}
 use Rattle.ap_host.specs.Disk.{Path, Files, Log}
@@ -13,7 +13,7 @@ use Rattle.stage_file.specs.Stage.{StageState}
 use Rattle.machine_state.specs.declared.fetched.Fetched.{Fetched}
 use Rattle.machine_state.specs.declared.limit.Limit.TheVariants.{ReleaseBytes}
 use Rattle.machine_state.specs.declared.refusal.Refusal.{Refusal}
-use Rattle.machine_state.specs.declared.refusal.Refusal.TheVariants.{InputMismatch, Limit}
+use Rattle.machine_state.specs.declared.refusal.Refusal.TheVariants.{InputAbsent, InputMalformed, InputMismatch, Limit}
 use Rattle.machine_state.specs.declared.arrived.Arrived.{Arrived}
 use Rattle.machine_state.specs.declared.arrived.Arrived.TheVariants as arrivals
 use Rattle.machine_state.specs.declared.arrived.UpdateFault.{UpdateFault}
@@ -26,7 +26,7 @@ use Rattle.package_intake.specs.Faults.{IsInputRefusal, IsOfFile, IsOfFiles}
 use Rattle.package_intake.specs.Additions.{IsFileOf}
 use Rattle.package_intake.specs.Answers.{AddsNamed}
 use Rattle.mirror_update.specs.Fetch.{IsFetched, release_path, distribution_folder}
-use Rattle.mirror_update.specs.Wanted.{stated_of, wanted_indexes}
+use Rattle.mirror_update.specs.Wanted.{listed_at, stated_of, wanted_indexes}
 use Rattle.mirror_update.specs.Indexes.{IndexesSay}
 use Rattle.mirror_update.specs.Filter.{conditions_of}
 use Rattle.mirror_update.specs.Arrival.{Arrives, chosen_of}
@@ -77,15 +77,32 @@ Comes large inbox state mirror (Err faults.HostFault) = Unit {0}
 Comes large inbox state mirror (Err faults.InboxFault) = Unit {0}
 Comes large inbox state mirror (Err faults.OutOfMemory) = Unit {0}
 
+-- ---- the Release
+
+-- On any inbox, why a Release isn't fetched: it isn't there, or is too long, or it is none, or it ends early, which is told of its path. A
+-- path that is too long for one is told as absent.
+abbrev pub IsReleaseRefusal : MirrorView → Refusal → Type 0
+IsReleaseRefusal mirror (InputAbsent at) = Unit {0}
+IsReleaseRefusal mirror (Limit limit) = limit ≡ ReleaseBytes
+IsReleaseRefusal mirror (InputMalformed at line) = at ≡ release_path mirror
+IsReleaseRefusal mirror (InputMismatch at what said found) = EndsEarlyIf (release_path mirror) (InputMismatch at what said found)
+IsReleaseRefusal mirror refusal = ⊥
+
+abbrev pub IsReleaseFault : MirrorView → UpdateFault → Type 0
+IsReleaseFault mirror (faults.Refused refusal) = IsReleaseRefusal mirror refusal
+IsReleaseFault mirror faults.OutOfMemory = Unit {0}
+IsReleaseFault mirror faults.InboxFault = Unit {0}
+IsReleaseFault mirror faults.HostFault = ⊥
+
 -- ---- what is named
 
 -- a Release says this
-abbrev pub IsSaid : ReleaseView → Type 0
-IsSaid release = (text : List ℕ) × IsRelease text release
+abbrev pub IsSomeRelease : ReleaseView → Type 0
+IsSomeRelease release = (text : List ℕ) × IsRelease text release
 
 -- The archive has this Release, and its indexes these packages, if the inbox tells. On any inbox they are a Release and packages.
 pub record IsArchive (inbox : Option Files) (mirror : MirrorView) (release : ReleaseView) (entries : List IndexEntry) : Type 0 where
-  pub said : IsSaid release
+  pub said : IsSomeRelease release
   pub packages : ArePackages entries
   pub fetched : ForSome inbox (λ files. IsFetched files mirror (Ok release))
   pub indexes : ForSome inbox (λ files. IndexesSay files mirror release (Ok entries))
@@ -106,11 +123,32 @@ Adds inbox mirror known result old new l ops = AddsNamed (AreOfArchive inbox mir
 
 -- ---- of what a mismatch is told
 
--- of an index that is wanted of a Release, of which it states this
+-- of an index that is wanted, of which the Release of the archive states this
 pub record IsOfIndex (inbox : Option Files) (mirror : MirrorView) (refusal : Refusal) : Type 0 where
   pub release : ReleaseView
-  pub said : IsSaid release
+  pub said : IsSomeRelease release
   pub fetched : ForSome inbox (λ files. IsFetched files mirror (Ok release))
+  pub name : Path
+  pub wanted : Contains (wanted_indexes mirror release) name
   pub file : Listed
-  pub wanted : (before behind : List Path) → Type 0
-  pub is : IsOfFile (below_folder (distribution_folder mirror) file.path) (stated_of file) refusal
+  pub listed : listed_at release.files name ≡ Some file
+  pub is : IsOfFile (below_folder (distribution_folder mirror) name) (stated_of file) refusal
+
+-- of the file of a package that the filter chooses, at its path below the archive
+pub record IsOfPackage (inbox : Option Files) (mirror : MirrorView) (refusal : Refusal) : Type 0 where
+  pub release : ReleaseView
+  pub entries : List IndexEntry
+  pub archive : IsArchive inbox mirror release entries
+  pub is : IsOfFiles mirror.archive (path_of entries) (chosen_in mirror release entries) refusal
+
+-- What is told of a mismatch is told of the Release, which ends early: its length, and the shorter one that was reached. Or it is told
+-- of a wanted index, or of the file of a chosen package: a fact that is stated of it, and another one that was found.
+abbrev pub IsOfMirror : Option Files → MirrorView → Refusal → Type 0
+IsOfMirror inbox mirror (InputMismatch at what said found) =
+    EndsEarlyIf (release_path mirror) (InputMismatch at what said found)
+    ⊎ (IsOfIndex inbox mirror (InputMismatch at what said found) ⊎ IsOfPackage inbox mirror (InputMismatch at what said found))
+IsOfMirror inbox mirror refusal = Unit {0}
+
+abbrev pub FaultOfMirror : Option Files → MirrorView → UpdateFault → Type 0
+FaultOfMirror inbox mirror (faults.Refused refusal) = IsOfMirror inbox mirror refusal
+FaultOfMirror inbox mirror fault = Unit {0}

@@ -5,6 +5,7 @@ use Rattle.ap_host.specs.Disk.{Path, Files}
 use Rattle.release_file.specs.Release.{ReleaseView, IsRelease, IsAt}
 use Rattle.machine_state.specs.declared.limit.Limit.TheVariants.{ReleaseBytes}
 use Rattle.machine_state.specs.declared.refusal.Refusal.{Refusal}
+use Rattle.machine_state.specs.declared.refusal.Refusal.TheVariants.{InputMalformed}
 use Rattle.machine_state.specs.declared.arrived.UpdateFault.{UpdateFault}
 use Rattle.machine_state.specs.declared.arrived.UpdateFault.TheVariants as faults
 use Rattle.machine_state.specs.Values.{MirrorView}
@@ -35,6 +36,13 @@ ReadBy Says path (Err refusal) read = read ≡ Err refusal
 abbrev pub IsReleaseText : List ℕ → Result ReleaseView ℕ → Type 0
 IsReleaseText text (Ok release) = IsRelease text release
 IsReleaseText text (Err line) = IsAt text line
+
+-- the text is no Release, which is told of this path
+abbrev pub IsMalformedRelease : Path → List ℕ → UpdateFault → Type 0
+IsMalformedRelease path text (faults.Refused refusal) = (line : ℕ) × IsAt text line × (refusal ≡ InputMalformed path line)
+IsMalformedRelease path text faults.OutOfMemory = Unit {0}
+IsMalformedRelease path text faults.HostFault = ⊥
+IsMalformedRelease path text faults.InboxFault = ⊥
 
 -- What the Release of the archive says, or the first step that fails: it is there and not too long, and it is a Release.
 unfoldable pub IsFetched : Files → MirrorView → Result ReleaseView Refusal → Type 0

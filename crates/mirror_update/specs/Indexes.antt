@@ -5,7 +5,11 @@ use Rattle.ap_host.specs.Disk.{Path, Content, Files}
 use Rattle.release_file.specs.declared.listing.Listed.{Listed}
 use Rattle.release_file.specs.Release.{ReleaseView}
 use Rattle.machine_state.specs.declared.refusal.Refusal.{Refusal}
-use Rattle.machine_state.specs.declared.refusal.Refusal.TheVariants.{InputAbsent}
+use Rattle.machine_state.specs.declared.refusal.Refusal.TheVariants.{InputAbsent, InputMismatch}
+use Rattle.machine_state.specs.declared.arrived.UpdateFault.{UpdateFault}
+use Rattle.machine_state.specs.declared.arrived.UpdateFault.TheVariants as faults
+use Rattle.std.specs.List.{Contains}
+use Rattle.package_intake.specs.Faults.{IsOfFile}
 use Rattle.machine_state.specs.Values.{MirrorView}
 use Rattle.package_intake.specs.Index.{IndexEntry, IsIndex, stated_bytes}
 use Rattle.mirror_update.specs.Fetch.{ReadBy, distribution_folder}
@@ -48,3 +52,25 @@ AreAllRead files folder listed names read = IsReadAll (IsIndexRead files folder 
 -- What the indexes that are wanted of an archive with this Release say.
 abbrev pub IndexesSay : Files → MirrorView → ReleaseView → Result (List IndexEntry) Refusal → Type 0
 IndexesSay files mirror release read = AreAllRead files (distribution_folder mirror) release.files (wanted_indexes mirror release) read
+
+-- ---- of what a mismatch is told
+
+-- of the index of this name below the folder, of which the listed file states something else
+abbrev pub IsOfOne : Path → List Listed → Path → Refusal → Type 0
+IsOfOne folder listed name (InputMismatch at what said found) =
+    (file : Listed) × (listed_at listed name ≡ Some file) × IsOfFile (below_folder folder name) (stated_of file) (InputMismatch at what said found)
+IsOfOne folder listed name refusal = Unit {0}
+
+abbrev pub FaultOfOne : Path → List Listed → Path → UpdateFault → Type 0
+FaultOfOne folder listed name (faults.Refused refusal) = IsOfOne folder listed name refusal
+FaultOfOne folder listed name fault = Unit {0}
+
+-- the same of one of the indexes of these names
+abbrev pub IsOfListed : Path → List Listed → List Path → Refusal → Type 0
+IsOfListed folder listed names (InputMismatch at what said found) =
+    (name : Path) × Contains names name × IsOfOne folder listed name (InputMismatch at what said found)
+IsOfListed folder listed names refusal = Unit {0}
+
+abbrev pub FaultOfListed : Path → List Listed → List Path → UpdateFault → Type 0
+FaultOfListed folder listed names (faults.Refused refusal) = IsOfListed folder listed names refusal
+FaultOfListed folder listed names fault = Unit {0}
