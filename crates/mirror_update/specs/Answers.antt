@@ -13,19 +13,21 @@ use Rattle.stage_file.specs.Stage.{StageState}
 use Rattle.machine_state.specs.declared.fetched.Fetched.{Fetched}
 use Rattle.machine_state.specs.declared.limit.Limit.TheVariants.{ReleaseBytes}
 use Rattle.machine_state.specs.declared.refusal.Refusal.{Refusal}
-use Rattle.machine_state.specs.declared.refusal.Refusal.TheVariants.{InputAbsent, InputMalformed, InputMismatch, Limit}
+use Rattle.machine_state.specs.declared.refusal.Refusal.TheVariants.{InputAbsent, InputMalformed, InputMismatch, Limit, PatternTooLarge}
 use Rattle.machine_state.specs.declared.arrived.Arrived.{Arrived}
 use Rattle.machine_state.specs.declared.arrived.Arrived.TheVariants as arrivals
 use Rattle.machine_state.specs.declared.arrived.UpdateFault.{UpdateFault}
 use Rattle.machine_state.specs.declared.arrived.UpdateFault.TheVariants as faults
+use Rattle.machine_state.specs.declared.change.ChangeFault.{ChangeFault}
+use Rattle.machine_state.specs.declared.change.ChangeFault.TheVariants as changes
 use Rattle.machine_state.specs.Values.{MirrorView, StateView}
-use Rattle.step_model.specs.Refuses.{IsPick}
+use Rattle.step_model.specs.Refuses.{ArePatterns, IsPick}
 use Rattle.ap_text.specs.Paths.{below_folder}
 use Rattle.package_intake.specs.Index.{EndsEarlyIf, IndexEntry, cards_of, path_of}
 use Rattle.package_intake.specs.Faults.{IsInputRefusal, IsOfFile, IsOfFiles}
 use Rattle.package_intake.specs.Additions.{IsFileOf}
 use Rattle.package_intake.specs.Answers.{AddsNamed}
-use Rattle.mirror_update.specs.Fetch.{IsFetched, release_path, distribution_folder}
+use Rattle.mirror_update.specs.Fetch.{FaultMeets, IsFetched, IsShort, release_path, distribution_folder}
 use Rattle.mirror_update.specs.Wanted.{listed_at, stated_of, wanted_indexes}
 use Rattle.mirror_update.specs.Indexes.{IndexesSay}
 use Rattle.mirror_update.specs.Filter.{conditions_of}
@@ -67,15 +69,47 @@ IsArrival large inbox state mirror (arrivals.List list date) = Updates large inb
 IsArrival large inbox state mirror (arrivals.Refused refusal) = Updates large inbox state mirror (Err refusal)
 IsArrival large inbox state mirror arrivals.Nothing = ⊥
 
--- a call comes to an arrival, unless the outside fails or memory is wanting
-abbrev pub Comes : Option (List ℕ) → Option Files → StateView → MirrorView → Result Arrived UpdateFault → Type 0
-Comes large inbox state mirror (Ok arrivals.Nothing) = ⊥
-Comes large inbox state mirror (Ok (arrivals.Refused refusal)) = ⊥
-Comes large inbox state mirror (Ok (arrivals.List list date)) = IsArrival large inbox state mirror (arrivals.List list date)
-Comes large inbox state mirror (Err (faults.Refused refusal)) = IsArrival large inbox state mirror (arrivals.Refused refusal)
-Comes large inbox state mirror (Err faults.HostFault) = Unit {0}
-Comes large inbox state mirror (Err faults.InboxFault) = Unit {0}
-Comes large inbox state mirror (Err faults.OutOfMemory) = Unit {0}
+-- a call brings what P says, unless the outside fails or memory is wanting
+abbrev pub Brings : (Result Fetched Refusal → Type 0) → Result Arrived UpdateFault → Type 0
+Brings P (Ok (arrivals.List list date)) = P (Ok (record { date = date; list = list }))
+Brings P (Ok arrivals.Nothing) = ⊥
+Brings P (Ok (arrivals.Refused refusal)) = ⊥
+Brings P (Err fault) = FaultMeets P fault
+
+-- P of what was fetched, if something was
+abbrev pub IfFetched : Result Arrived UpdateFault → (Fetched → Type 0) → Type 0
+IfFetched (Ok (arrivals.List list date)) P = P (record { date = date; list = list })
+IfFetched (Ok arrivals.Nothing) P = Unit {0}
+IfFetched (Ok (arrivals.Refused refusal)) P = Unit {0}
+IfFetched (Err fault) P = Unit {0}
+
+-- ---- patterns
+
+-- P of a refusal, if the error is one; else memory was wanting
+abbrev pub IfRefused : (Refusal → Type 0) → UpdateFault → Type 0
+IfRefused P (faults.Refused refusal) = P refusal
+IfRefused P faults.OutOfMemory = Unit {0}
+IfRefused P faults.HostFault = ⊥
+IfRefused P faults.InboxFault = ⊥
+
+-- a fault of a change, as that of an update
+abbrev pub change_tells : ChangeFault → UpdateFault
+change_tells (changes.Refused refusal) = faults.Refused refusal
+change_tells changes.OutOfMemory = faults.OutOfMemory
+
+-- why an update is refused: for a pattern of the filter as P says, or for the archive where all of these are patterns
+abbrev pub IsUpdateFault : (Refusal → Type 0) → MirrorView → UpdateFault → Type 0
+IsUpdateFault P mirror (faults.Refused refusal) = P refusal ⊎ (ArePatterns (conditions_of mirror) × IsArchiveRefusal refusal)
+IsUpdateFault P mirror fault = Unit {0}
+
+-- which text was refused for its size changes only where such a pattern is told
+abbrev pub KeepsBut : Option (List ℕ) → Option (List ℕ) → UpdateFault → Type 0
+KeepsBut old new (faults.Refused (PatternTooLarge query test)) = Unit {0}
+KeepsBut old new fault = new ≡ old
+
+abbrev pub KeepsText : {X : Type 0} → Option (List ℕ) → Option (List ℕ) → Result X UpdateFault → Type 0
+KeepsText old new (Ok x) = new ≡ old
+KeepsText old new (Err fault) = KeepsBut old new fault
 
 -- ---- the Release
 
@@ -104,8 +138,8 @@ IsSomeRelease release = (text : List ℕ) × IsRelease text release
 pub record IsArchive (inbox : Option Files) (mirror : MirrorView) (release : ReleaseView) (entries : List IndexEntry) : Type 0 where
   pub said : IsSomeRelease release
   pub packages : ArePackages entries
-  pub fetched : ForSome inbox (λ files. IsFetched files mirror (Ok release))
-  pub indexes : ForSome inbox (λ files. IndexesSay files mirror release (Ok entries))
+  pub fetched : IsShort mirror → ForSome inbox (λ files. IsFetched files mirror (Ok release))
+  pub indexes : IsShort mirror → ForSome inbox (λ files. IndexesSay files mirror release (Ok entries))
 
 -- the packages of an archive that the filter chooses
 abbrev pub chosen_in : MirrorView → ReleaseView → List IndexEntry → List Card
@@ -127,7 +161,7 @@ Adds inbox mirror known result old new l ops = AddsNamed (AreOfArchive inbox mir
 pub record IsOfIndex (inbox : Option Files) (mirror : MirrorView) (refusal : Refusal) : Type 0 where
   pub release : ReleaseView
   pub said : IsSomeRelease release
-  pub fetched : ForSome inbox (λ files. IsFetched files mirror (Ok release))
+  pub fetched : IsShort mirror → ForSome inbox (λ files. IsFetched files mirror (Ok release))
   pub name : Path
   pub wanted : Contains (wanted_indexes mirror release) name
   pub file : Listed

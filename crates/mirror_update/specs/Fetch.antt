@@ -5,7 +5,7 @@ use Rattle.ap_host.specs.Disk.{Path, Files}
 use Rattle.release_file.specs.Release.{ReleaseView, IsRelease, IsAt}
 use Rattle.machine_state.specs.declared.limit.Limit.TheVariants.{ReleaseBytes}
 use Rattle.machine_state.specs.declared.refusal.Refusal.{Refusal}
-use Rattle.machine_state.specs.declared.refusal.Refusal.TheVariants.{InputMalformed}
+use Rattle.machine_state.specs.declared.refusal.Refusal.TheVariants.{InputAbsent, InputMalformed}
 use Rattle.machine_state.specs.declared.arrived.UpdateFault.{UpdateFault}
 use Rattle.machine_state.specs.declared.arrived.UpdateFault.TheVariants as faults
 use Rattle.machine_state.specs.Values.{MirrorView}
@@ -61,3 +61,11 @@ FaultMeets P faults.OutOfMemory = Unit {0}
 abbrev pub Meets : {X : Type 0} → (Result X Refusal → Type 0) → Result X UpdateFault → Type 0
 Meets P (Ok x) = P (Ok x)
 Meets P (Err fault) = FaultMeets P fault
+
+-- something isn't there, or memory was wanting
+abbrev pub IsAbsentFault : UpdateFault → Type 0
+IsAbsentFault (faults.Refused (InputAbsent path)) = Unit {0}
+IsAbsentFault (faults.Refused _) = ⊥
+IsAbsentFault faults.OutOfMemory = Unit {0}
+IsAbsentFault faults.HostFault = ⊥
+IsAbsentFault faults.InboxFault = ⊥

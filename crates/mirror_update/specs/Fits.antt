@@ -5,7 +5,8 @@ use Rattle.package_core.specs.Whole.{IsWhole}
 use Rattle.package_list.specs.Lists.{union}
 use Rattle.machine_state.specs.declared.fetched.Fetched.{Fetched}
 use Rattle.machine_state.specs.Named.{changed}
-use Rattle.machine_state.specs.State.{Valid, mirror_name}
+use Rattle.machine_state.specs.State.{IsCatalogue, IsNamedList, Valid, mirror_name}
+use Rattle.machine_state.specs.Texts.{IsDate}
 use Rattle.machine_state.specs.Values.{MirrorView, StateView}
 
 -- the mirror with what was fetched
@@ -21,3 +22,14 @@ updated state name fetched =
 pub record FitsIn (state : StateView) (name : List ℕ) (fetched : Fetched) : Type 0 where
   pub whole : All IsWhole fetched.list
   pub valid : Valid (updated state name fetched)
+
+-- The packages are whole. With them what is known keeps to what is asked of it, and they are a list of packages by name.
+pub record IsKnowable (known list : List Card) : Type 0 where
+  pub whole : All IsWhole list
+  pub catalogue : IsCatalogue (union known list)
+  pub listed : IsNamedList (union known list) list
+
+-- the same of what was fetched, whose date is one line
+pub record FitsWith (known : List Card) (fetched : Fetched) : Type 0 where
+  pub date : IsDate fetched.date
+  pub list : IsKnowable known fetched.list

@@ -1,14 +1,14 @@
 //! What the filter of a mirror chooses.
-ghost use Rattle.std.specs.Prelude.{◌≡◌, ◌≤◌, IfOk, IfErr, OnOk, map, None, Some};
+ghost use Rattle.std.specs.Prelude.{◌≡◌, ◌≤◌, IfOk, IfErr, OnOk, Option, map, None, Some};
 ghost use Rattle.std.specs.List.{filter};
 ghost use Rattle.std.specs.Option.{option_map};
 ghost use Rattle.std.specs.Rc.{rc_value};
-ghost use Rattle.query_tree.specs.Tree.{plain, plains};
+ghost use Rattle.query_tree.specs.Tree.{Tree, plain, plains};
 ghost use Rattle.query_eval.specs.Truth.{matches};
 ghost use Rattle.depend_pull.specs.Pull.{with_what_it_needs};
 ghost use Rattle.step_model.specs.Answers.{ToldBy};
 ghost use Rattle.step_model.specs.Refuses.{IsPick};
-ghost use Rattle.mirror_update.specs.Answers.{IfRefused};
+ghost use Rattle.mirror_update.specs.Answers.{IfRefused, KeepsText, change_tells};
 ghost use Rattle.mirror_update.specs.Filter.{chosen_by, conditions_of, following as follow, queries_of};
 
 use ap_text::Name;
@@ -34,7 +34,9 @@ fn query_of(alloc: Global, filter: &Option<Query>) -> Result<Vec<Query>, AllocEr
 }
 
 /// The fault of a change, as that of an update.
-fn of_change(fault: ChangeFault) -> UpdateFault {
+fn of_change(fault: ChangeFault) -> UpdateFault
+    ensures { result ≡ change_tells fault }
+{
     match fault {
         ChangeFault::Refused(refusal) => UpdateFault::Refused(refusal),
         ChangeFault::OutOfMemory => UpdateFault::OutOfMemory,
@@ -51,6 +53,7 @@ pub(crate) fn prepared<M: Patterns>(
     ensures read { OnOk result (IsPick None (conditions_of mirror.now) None) }
     ensures fault { IfErr result (IfRefused (λ refusal. ToldBy M.Patterns patterns.old patterns.new (λ large. IsPick large (conditions_of mirror.now) (Some refusal)))) }
     ensures never_falls { M.refusals patterns.old ≤ M.refusals patterns.new }
+    ensures kept { KeepsText (M.refused patterns.old) (M.refused patterns.new) result }
 {
     let queries = query_of(alloc, &mirror.filter)?;
     match prepare_queries(alloc, &queries, patterns) {

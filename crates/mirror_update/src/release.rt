@@ -4,7 +4,7 @@ ghost use Rattle.std.specs.Option.{ForSome};
 ghost use Rattle.ap_host.specs.Calls.{CauseOf};
 ghost use Rattle.machine_state.specs.declared.arrived.UpdateFault.TheVariants.{HostFault, InboxFault, OutOfMemory};
 ghost use Rattle.mirror_update.specs.Answers.{IsReleaseFault, IsSomeRelease};
-ghost use Rattle.mirror_update.specs.Fetch.{IsFetched, IsMalformedRelease, IsShort, Meets, distribution_folder, release_path};
+ghost use Rattle.mirror_update.specs.Fetch.{IsAbsentFault, IsFetched, IsMalformedRelease, IsShort, Meets, distribution_folder, release_path};
 ghost use Rattle.release_file.specs.Release.{IsRelease};
 
 use ap_host::Inbox;
@@ -24,7 +24,7 @@ const RELEASE: &str = "Release";
 pub(crate) fn folder_of(alloc: Global, mirror: &Mirror) -> Result<SafePath, UpdateFault>
     ensures path { IfOk result (λ path. path ≡ distribution_folder mirror.now) }
     ensures short { IsShort mirror.now → IfErr result (λ e. e ≡ OutOfMemory) }
-    ensures fault { IfErr result (IsReleaseFault mirror.now) }
+    ensures fault { IfErr result IsAbsentFault }
 {
     let name = SafePath::fixed(alloc, DISTRIBUTIONS)?;
     let folder = path_below(alloc, &mirror.archive, &name)?;
@@ -35,7 +35,7 @@ pub(crate) fn folder_of(alloc: Global, mirror: &Mirror) -> Result<SafePath, Upda
 fn path_of_release(alloc: Global, mirror: &Mirror) -> Result<SafePath, UpdateFault>
     ensures path { IfOk result (λ path. path ≡ release_path mirror.now) }
     ensures short { IsShort mirror.now → IfErr result (λ e. e ≡ OutOfMemory) }
-    ensures fault { IfErr result (IsReleaseFault mirror.now) }
+    ensures fault { IfErr result IsAbsentFault }
 {
     let folder = folder_of(alloc, mirror)?;
     let name = SafePath::fixed(alloc, RELEASE)?;

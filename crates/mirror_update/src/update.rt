@@ -1,4 +1,32 @@
 //! A mirror is updated.
+ghost use Rattle.std.specs.Prelude.{◌≡◌, ◌≤◌, IfOk, IfErr, OnOk, Ok, Some, map, length};
+ghost use Rattle.std.specs.BTreeMap.{get};
+ghost use Rattle.std.specs.Option.{ForSome};
+ghost use Rattle.std.specs.Rc.{rc_value};
+ghost use Rattle.ap_host.specs.Calls.{CauseOf};
+ghost use Rattle.ap_host.specs.Changes.{GoesOn};
+ghost use Rattle.index_text.specs.Index.{ArePackages};
+ghost use Rattle.machine_state.specs.declared.arrived.UpdateFault.TheVariants.{HostFault, InboxFault};
+ghost use Rattle.machine_state.specs.declared.limit.Limit.TheVariants.{Packages};
+ghost use Rattle.machine_state.specs.State.{IsCatalogue, Valid, mirror_of};
+ghost use Rattle.package_core.specs.Card.{Card};
+ghost use Rattle.package_core.specs.Order.{package_cmp};
+ghost use Rattle.package_list.specs.Answers.{join_answer};
+ghost use Rattle.package_list.specs.Lists.{joined as joined_of};
+ghost use Rattle.package_intake.specs.Additions.{AddsAll};
+ghost use Rattle.package_intake.specs.Faults.{FaultOfFiles, IsAnyFault, IsInputFault, IsOtherFault, IsOwnFault};
+ghost use Rattle.package_intake.specs.Index.{AreShort, cards_of, entry_for, path_of};
+ghost use Rattle.package_intake.specs.Steps.{FaultGives, Gives, or_refused};
+ghost use Rattle.step_model.specs.Answers.{ToldBy};
+ghost use Rattle.step_model.specs.Refuses.{ArePatterns, IsPick};
+ghost use Rattle.mirror_update.specs.Fetch.{IsShort, Meets, distribution_folder};
+ghost use Rattle.mirror_update.specs.Wanted.{wanted_indexes};
+ghost use Rattle.mirror_update.specs.Indexes.{FaultOfListed, IndexesSay};
+ghost use Rattle.mirror_update.specs.Filter.{chosen_by, conditions_of, queries_of};
+ghost use Rattle.mirror_update.specs.Arrival.{Arrives, entries_arrive};
+ghost use Rattle.mirror_update.specs.Answers.{Adds, Brings, FaultOfMirror, IfFetched, IsArchiveFault, IsUpdateFault, KeepsText, Updates, chosen_in};
+ghost use Rattle.mirror_update.specs.Fits.{FitsIn, FitsWith, IsKnowable};
+
 use crate::filter::{choose, prepared};
 use crate::indexes::read_all;
 use crate::release::{fetch_release, folder_of};
@@ -23,6 +51,13 @@ fn read_indexes<I: Inbox>(
     mirror: &Mirror,
     release: &Release,
 ) -> Result<Vec<(Package, SafePath)>, UpdateFault>
+    ensures told { IsShort mirror.now → ForSome (I.map inbox.old) (λ f. Meets (IndexesSay f mirror.now release.now) result) }
+    ensures packages { IfOk result (λ v. ArePackages v.items) }
+    ensures short { IfOk result (λ v. AreShort v.items) }
+    ensures fault { IfErr result IsInputFault }
+    ensures mismatch { IfErr result (FaultOfListed (distribution_folder mirror.now) release.now.files (wanted_indexes mirror.now release.now)) }
+    ensures map { I.map inbox.new ≡ I.map inbox.old }
+    ensures cause { CauseOf InboxFault (I.faults inbox.old) (I.faults inbox.new) result }
 {
     let folder = folder_of(alloc, mirror)?;
     let names = wanted(alloc, mirror, release)?;
@@ -37,6 +72,13 @@ fn choose_of(
     archs: &[Name],
     entries: Vec<(Package, SafePath)>,
 ) -> Result<(Vec<Rc<Package>>, Paths), UpdateFault>
+    requires queries { queries.now ≡ queries_of mirror.now.filter }
+    ensures chosen { IfOk result (λ made. map rc_value made.0.items ≡ chosen_by mirror.now.filter mirror.now.with_deps archs.now (joined_of (cards_of entries.items))) }
+    ensures paths { IfOk result (λ made. (q : Card) → get package_cmp made.1 q ≡ entry_for entries.items q) }
+    ensures good { OnOk result (or_refused Packages (join_answer (cards_of entries.items)) ≡ Ok (joined_of (cards_of entries.items))) }
+    ensures bad { IfErr result (λ e. FaultGives e (or_refused Packages (join_answer (cards_of entries.items)))) }
+    ensures fault { IfErr result IsOwnFault }
+    ensures other { IfErr result IsOtherFault }
 {
     let (packages, paths) = split(alloc, entries)?;
     let joined = join_packages(alloc, &packages)?;
@@ -56,6 +98,15 @@ fn take_chosen<H: Host, I: Inbox>(
     release: &Release,
     entries: Vec<(Package, SafePath)>,
 ) -> Result<PackageList, UpdateFault>
+    requires queries { queries.now ≡ queries_of mirror.now.filter }
+    ensures told { IsCatalogue known.now → length mirror.now.archive ≤ 200 → AreShort entries.items → ForSome (I.map inbox.old) (λ f. Gives result (entries_arrive f known.now mirror.now release.now entries.items)) }
+    ensures fits { IfOk result (λ list. IsCatalogue known.now → ArePackages entries.items → IsKnowable known.now list) }
+    ensures fault { IfErr result IsAnyFault }
+    ensures mismatch { IfErr result (FaultOfFiles mirror.now.archive (path_of entries.items) (chosen_in mirror.now release.now entries.items)) }
+    ensures log { GoesOn (H.log host.old) (H.log host.new) (AddsAll (I.map inbox.old) (chosen_in mirror.now release.now entries.items) known.now result stage.old stage.new) }
+    ensures map { I.map inbox.new ≡ I.map inbox.old }
+    ensures cause { CauseOf HostFault (H.faults host.old) (H.faults host.new) result }
+    ensures input { CauseOf InboxFault (I.faults inbox.old) (I.faults inbox.new) result }
 {
     let archs = names_or(&mirror.architectures, &release.architectures);
     let (chosen, paths) = choose_of(alloc, mirror, queries, archs, entries)?;
@@ -74,6 +125,15 @@ fn take_archive<H: Host, I: Inbox>(
     mirror: &Mirror,
     queries: &[Prepared],
 ) -> Result<Arrived, UpdateFault>
+    requires queries { queries.now ≡ queries_of mirror.now.filter }
+    ensures told { IsCatalogue known.now → IsShort mirror.now → ForSome (I.map inbox.old) (λ f. Brings (Arrives f known.now mirror.now) result) }
+    ensures fits { IsCatalogue known.now → IfFetched result (FitsWith known.now) }
+    ensures fault { IfErr result IsArchiveFault }
+    ensures mismatch { IfErr result (FaultOfMirror (I.map inbox.old) mirror.now) }
+    ensures log { GoesOn (H.log host.old) (H.log host.new) (Adds (I.map inbox.old) mirror.now known.now result stage.old stage.new) }
+    ensures map { I.map inbox.new ≡ I.map inbox.old }
+    ensures cause { CauseOf HostFault (H.faults host.old) (H.faults host.new) result }
+    ensures input { CauseOf InboxFault (I.faults inbox.old) (I.faults inbox.new) result }
 {
     let release = fetch_release(alloc, inbox, mirror)?;
     let date = Text::new(alloc, release.date.as_str())?;
@@ -84,7 +144,33 @@ fn take_archive<H: Host, I: Inbox>(
     Ok(Arrived::List { list, date })
 }
 
-/// doc
+/// Takes in an archive of the inbox for a mirror: the packages that its filter chooses, each with the four facts of its file, whose body
+/// then stands in the pool, and the date that the archive states. The state isn't changed, and no barrier is made.
+///
+/// The patterns of the filter are built first, before anything is read: the first `~` condition that can't be built is told as
+/// `BadPattern`, or as `PatternTooLarge` only where `patterns` refused its text for its size in this call, each with its number in the
+/// filter, which counts as the first query. Then the steps are made in this order, and the first that fails decides:
+///
+/// 1. The Release of the distribution is there, else `InputAbsent`, and has at most 4,194,304 bytes, else `Limit(ReleaseBytes)`.
+/// 2. It is a Release (the Debian repository format), else `InputMalformed`, as [`fetch_release`] says.
+/// 3. For each component of the mirror, or where it names none of the Release, and for each of these for each architecture, likewise: the
+///    index `COMPONENT/binary-ARCHITECTURE/Packages` is listed in the Release and there, else `InputAbsent`. Its listed size is at most
+///    134,217,728 bytes, else `Limit(Index)`. It has that size and the listed SHA-256, else `InputMismatch`. It is made of stanzas, each
+///    of a binary package with readable relations, else `InputMalformed` (Debian Policy 5.1, 5.3, 7.1, 7.5).
+/// 4. The packages of all indexes are joined in their order, of equal ones the first stands: `Conflict` where one differs from an earlier
+///    one of its name, version and architecture, and `Limit(Packages)` at the 200,001st.
+/// 5. Those stay of which the filter is true, where it asks for that with what they depend on of the others, over the same
+///    architectures. Without a filter all stay.
+/// 6. Their files are taken in, in the order of packages, each at its path below the archive. A stated size has at most 268,435,456 bytes,
+///    else `Limit(File)`. Where a known package's file has the SHA-256, what is known of the first such has to agree with what is stated,
+///    and nothing is read. Else the file is there, else `InputAbsent`. What is stated of it is so, else `InputMismatch` with the first of
+///    size, SHA-256, SHA-1 and MD5 that differs. Where an equal package is known, that one stands.
+/// 7. Together with the known packages they are at most 400,000, else `Limit(Known)`, and their texts have at most 1,073,741,824 bytes,
+///    else `Limit(Catalogue)`.
+///
+/// Pool files that were taken in before a refusal stay. Each is one that the archive names by its SHA-256, of a package that the filter
+/// chooses. `HostFault` and `InboxFault` come only where the host or the inbox failed. It is meant for a valid state that has the mirror.
+/// It gives a list or a refusal, never `Nothing`.
 pub fn update<H: Host, I: Inbox, M: Patterns>(
     alloc: Global,
     host: &mut H,
@@ -94,7 +180,27 @@ pub fn update<H: Host, I: Inbox, M: Patterns>(
     mirror: &Mirror,
     patterns: &mut M,
 ) -> Result<Arrived, UpdateFault>
+    ensures told { Valid state.now → mirror_of mirror.now.name state.now.mirrors ≡ Some mirror.now → ToldBy M.Patterns patterns.old patterns.new (λ large. Brings (Updates large (I.map inbox.old) state.now mirror.now) result) }
+    ensures fits { Valid state.now → mirror_of mirror.now.name state.now.mirrors ≡ Some mirror.now → IfFetched result (FitsIn state.now mirror.now.name) }
+    ensures read { OnOk result (ArePatterns (conditions_of mirror.now)) }
+    ensures fault { IfErr result (IsUpdateFault (λ refusal. ToldBy M.Patterns patterns.old patterns.new (λ large. IsPick large (conditions_of mirror.now) (Some refusal))) mirror.now) }
+    ensures mismatch { IfErr result (FaultOfMirror (I.map inbox.old) mirror.now) }
+    ensures log { GoesOn (H.log host.old) (H.log host.new) (Adds (I.map inbox.old) mirror.now state.now.known result stage.old stage.new) }
+    ensures map { I.map inbox.new ≡ I.map inbox.old }
+    ensures cause { CauseOf HostFault (H.faults host.old) (H.faults host.new) result }
+    ensures input { CauseOf InboxFault (I.faults inbox.old) (I.faults inbox.new) result }
+    ensures never_falls { M.refusals patterns.old ≤ M.refusals patterns.new }
+    // Which text was refused for its size changes only where such a pattern is told.
+    ensures kept { KeepsText (M.refused patterns.old) (M.refused patterns.new) result }
 {
     let queries = prepared(alloc, mirror, patterns)?;
-    take_archive(alloc, host, stage, inbox, &state.known, mirror, &queries)
+    take_archive(
+        alloc,
+        host,
+        stage,
+        inbox,
+        &state.known,
+        mirror,
+        &queries,
+    )
 }

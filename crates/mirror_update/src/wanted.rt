@@ -1,6 +1,6 @@
 //! Which indexes of an archive are wanted for a mirror.
 ghost use Rattle.std.specs.Prelude.{◌≡◌, ◌++◌, ◌≤◌, IfOk, OnOk, All, map, codes, length, string_bytes};
-ghost use Rattle.mirror_update.specs.Wanted.{index_name, indexes_of, or_those, wanted_indexes};
+ghost use Rattle.mirror_update.specs.Wanted.{AreShortNames, arch_folder, arch_index, index_name, indexes_of, or_those, wanted_indexes};
 
 use ap_text::{Name, SafePath};
 use machine_state::Mirror;
@@ -19,14 +19,14 @@ pub(crate) fn names_or<'a>(own: &'a [Name], those: &'a [Name]) -> &'a [Name]
 
 /// The name of the folder of an architecture in its component.
 fn folder_text(alloc: Global, arch: &str) -> Result<String, AllocError>
-    ensures { IfOk result (λ text. string_bytes text ≡ codes "binary-" ++ arch.now) }
+    ensures { IfOk result (λ text. string_bytes text ≡ arch_folder arch.now) }
 {
     format!(in alloc; "binary-{}", arch)
 }
 
 /// The same as a path.
 fn folder_of(alloc: Global, arch: &Name) -> Result<SafePath, AllocError>
-    ensures path { IfOk result (λ path. path ≡ codes "binary-" ++ arch.now) }
+    ensures path { IfOk result (λ path. path ≡ arch_folder arch.now) }
     ensures short { IfOk result (λ path. length path ≤ 207) }
 {
     let text = folder_text(alloc, arch.as_str())?;
@@ -35,7 +35,7 @@ fn folder_of(alloc: Global, arch: &Name) -> Result<SafePath, AllocError>
 
 /// The path of the index of an architecture below its component.
 fn rest_of(alloc: Global, arch: &Name) -> Result<SafePath, AllocError>
-    ensures path { IfOk result (λ path. index_name [] arch.now ≡ 47 ∷ path) }
+    ensures path { IfOk result (λ path. path ≡ arch_index arch.now) }
     ensures short { IfOk result (λ path. length path ≤ 216) }
 {
     let folder = folder_of(alloc, arch)?;
@@ -61,6 +61,7 @@ fn put_indexes(
     archs: &[Name],
 ) -> Result<(), AllocError>
     ensures names { OnOk result (names.new.items ≡ names.old.items ++ map (index_name component.now) archs.now) }
+    ensures short { OnOk result (AreShortNames names.old.items → AreShortNames names.new.items) }
 {
     for arch in archs {
         names.push(name_of_index(alloc, component, arch)?)?;
@@ -75,6 +76,7 @@ fn names_of_indexes(
     archs: &[Name],
 ) -> Result<Vec<SafePath>, AllocError>
     ensures names { IfOk result (λ names. names.items ≡ indexes_of components.now archs.now) }
+    ensures short { IfOk result (λ names. AreShortNames names.items) }
 {
     let mut names = Vec::new(alloc);
     for component in components {
@@ -90,6 +92,7 @@ pub(crate) fn wanted(
     release: &Release,
 ) -> Result<Vec<SafePath>, AllocError>
     ensures names { IfOk result (λ names. names.items ≡ wanted_indexes mirror.now release.now) }
+    ensures short { IfOk result (λ names. AreShortNames names.items) }
 {
     let components = names_or(&mirror.components, &release.components);
     let archs = names_or(&mirror.architectures, &release.architectures);
