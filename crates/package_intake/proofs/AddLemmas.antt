@@ -100,17 +100,19 @@ by_length : (all : List Card) (b : Bool) → nat_lt (limit_number Catalogue) (te
 by_length all true e g = cc
 by_length all false e g = ltb-false (limit_number Catalogue) (text_length all) e
 
+-- what keeps within the catalogue
+pub within : (all : List Card) → within_catalogue all ≡ Ok tt → (length all ≤ limit_number Known) × (text_length all ≤ limit_number Catalogue)
+within all h =
+    let on = went_on (known_answer all) (λ xs. measured (nat_lt (limit_number Catalogue) (text_length xs))) tt h in
+    let few = by_count all on.0 (nat_lt (limit_number Known) (length all)) refl on.1 in
+    (few.0, subst (λ (x : List Card). text_length x ≤ limit_number Catalogue) few.1 (by_length on.0 (nat_lt (limit_number Catalogue) (text_length on.0)) refl on.2))
+
 checks : (known own list : List Card) → check_answer known own list ≡ Ok tt → Checked known own list
 unfolding check_answer
 checks known own list h =
     let first = went_on (or_refused Packages (append_answer own list)) (λ u. within_catalogue (union known list)) tt h in
-    let second = went_on (known_answer (union known list)) (λ all. measured (nat_lt (limit_number Catalogue) (text_length all))) tt first.2 in
-    let few = by_count (union known list) second.0 (nat_lt (limit_number Known) (length (union known list))) refl second.1 in
-    record {
-      appended = fine (append_answer own list) first.1;
-      few = few.0;
-      texts = subst (λ (x : List Card). text_length x ≤ limit_number Catalogue) few.1 (by_length second.0 (nat_lt (limit_number Catalogue) (text_length second.0)) refl second.2);
-    }
+    let small = within (union known list) first.2 in
+    record { appended = fine (append_answer own list) first.1; few = small.0; texts = small.1 }
 
 -- with what is known and a list of one's own
 pub fitting_with : (known own list : List Card) → Fitting known own list → IsCatalogue known → IsNamedList known own → FitsWith known own list
