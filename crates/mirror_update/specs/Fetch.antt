@@ -37,12 +37,12 @@ abbrev pub IsReleaseText : List ℕ → Result ReleaseView ℕ → Type 0
 IsReleaseText text (Ok release) = IsRelease text release
 IsReleaseText text (Err line) = IsAt text line
 
--- the text is no Release, which is told of this path
-abbrev pub IsMalformedRelease : Path → List ℕ → UpdateFault → Type 0
-IsMalformedRelease path text (faults.Refused refusal) = (line : ℕ) × IsAt text line × (refusal ≡ InputMalformed path line)
-IsMalformedRelease path text faults.OutOfMemory = Unit {0}
-IsMalformedRelease path text faults.HostFault = ⊥
-IsMalformedRelease path text faults.InboxFault = ⊥
+-- a line of the text can't stand there, which is told of this path; or memory was wanting
+abbrev pub IsMalformedBy : {X : Type 0} → (List ℕ → Result X ℕ → Type 0) → Path → List ℕ → UpdateFault → Type 0
+IsMalformedBy Says path text (faults.Refused refusal) = (line : ℕ) × Says text (Err line) × (refusal ≡ InputMalformed path line)
+IsMalformedBy Says path text faults.OutOfMemory = Unit {0}
+IsMalformedBy Says path text faults.HostFault = ⊥
+IsMalformedBy Says path text faults.InboxFault = ⊥
 
 -- What the Release of the archive says, or the first step that fails: it is there and not too long, and it is a Release.
 unfoldable pub IsFetched : Files → MirrorView → Result ReleaseView Refusal → Type 0

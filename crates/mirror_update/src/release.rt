@@ -4,7 +4,7 @@ ghost use Rattle.std.specs.Option.{ForSome};
 ghost use Rattle.ap_host.specs.Calls.{CauseOf};
 ghost use Rattle.machine_state.specs.declared.arrived.UpdateFault.TheVariants.{HostFault, InboxFault, OutOfMemory};
 ghost use Rattle.mirror_update.specs.Answers.{IsReleaseFault, IsSomeRelease};
-ghost use Rattle.mirror_update.specs.Fetch.{IsAbsentFault, IsFetched, IsMalformedRelease, IsShort, Meets, distribution_folder, release_path};
+ghost use Rattle.mirror_update.specs.Fetch.{IsAbsentFault, IsFetched, IsMalformedBy, IsReleaseText, IsShort, Meets, distribution_folder, release_path};
 ghost use Rattle.release_file.specs.Release.{IsRelease};
 
 use ap_host::Inbox;
@@ -44,7 +44,7 @@ fn path_of_release(alloc: Global, mirror: &Mirror) -> Result<SafePath, UpdateFau
 
 /// What the bytes of the Release at this path say.
 fn read_text(alloc: Global, path: &SafePath, bytes: &[u8]) -> Result<Release, UpdateFault>
-    ensures release { MatchResult result (IsRelease bytes.now) (IsMalformedRelease path.now bytes.now) }
+    ensures release { MatchResult result (IsRelease bytes.now) (IsMalformedBy IsReleaseText path.now bytes.now) }
 {
     match read_release(alloc, bytes) {
         Ok(release) => Ok(release),

@@ -181,7 +181,7 @@ pub fn update<H: Host, I: Inbox, M: Patterns>(
     patterns: &mut M,
 ) -> Result<Arrived, UpdateFault>
     ensures told { Valid state.now → mirror_of mirror.now.name state.now.mirrors ≡ Some mirror.now → ToldBy M.Patterns patterns.old patterns.new (λ large. Brings (Updates large (I.map inbox.old) state.now mirror.now) result) }
-    ensures fits { Valid state.now → mirror_of mirror.now.name state.now.mirrors ≡ Some mirror.now → IfFetched result (FitsIn state.now mirror.now.name) }
+    ensures fits { Valid state.now → IfFetched result (FitsIn state.now mirror.now.name) }
     ensures read { OnOk result (ArePatterns (conditions_of mirror.now)) }
     ensures fault { IfErr result (IsUpdateFault (λ refusal. ToldBy M.Patterns patterns.old patterns.new (λ large. IsPick large (conditions_of mirror.now) (Some refusal))) mirror.now) }
     ensures mismatch { IfErr result (FaultOfMirror (I.map inbox.old) mirror.now) }
