@@ -1,2 +1,6 @@
 pub mod ListLemmas
 pub mod NameLemmas
+pub mod FetchLemmas
+pub mod IndexLemmas
+pub mod FilterLemmas
+pub mod TakeLemmas
