@@ -4,3 +4,4 @@ pub mod FetchLemmas
 pub mod IndexLemmas
 pub mod FilterLemmas
 pub mod TakeLemmas
+pub mod UpdateLemmas

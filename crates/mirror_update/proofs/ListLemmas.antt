@@ -60,14 +60,14 @@ next_apart before p a none =
     xs : List Card
     xs = joined before
 
-    never : {e : ListFault} → refusal before p ≡ Some e → ⊥
-    never h = let no : None ≡ Some _ = sym none ∙ h in cc
+    never : (e : ListFault) → refusal before p ≡ Some e → ⊥
+    never e h = let both : None ≡ Some e = sym none ∙ h in cc
 
     by_tests : (h c l : Bool) → has_member xs p ≡ h → clashes xs p ≡ c → nat_lt (length xs) MOST_MEMBERS ≡ l → MatchResult (inserted p h c l) (λ _. refusal before p ≡ None) (λ e. refusal before p ≡ Some e) → IsApart (put package_cmp xs p)
     by_tests true c l e f g m = subst IsApart (sym (put_has package_total xs p (union_ascending package_total [] before tt) e)) a
-    by_tests false true l e f g m = absurd (never m)
+    by_tests false true l e f g m = absurd (never _ m)
     by_tests false false true e f g m = put_apart xs p a f (omega (arith, ltb-true (length xs) MOST_MEMBERS g))
-    by_tests false false false e f g m = absurd (never m)
+    by_tests false false false e f g m = absurd (never _ m)
 
 both_none : {X : Type 0} (a b : Option X) → option_or a b ≡ None → (a ≡ None) × (b ≡ None)
 both_none None b h = (refl, h)

@@ -45,7 +45,7 @@ pool_any path said cause faults.InboxFault is differs = tt
 
 -- ---- the index
 lengths_differ : (n m : ℕ) → (n ≡ m → ⊥) → AreDifferent Size (decimal n) (decimal m)
-lengths_differ n m no = (said, found, other_size said found no)
+lengths_differ n m differ = (said, found, other_size said found differ)
   where
     said : Said
     said = record { size = n; sha256 = []; sha1 = None; md5 = None }
@@ -62,13 +62,13 @@ differs_file path told what said found faults.InboxFault t is d = tt
 
 -- a file of another size than is stated
 pub sizes_input : (path : Path) (n m : ℕ) (fault : UpdateFault) → (n ≡ m → ⊥) → Tells fault (InputMismatch path Size (decimal n) (decimal m)) → IsInputFault fault
-sizes_input path n m (faults.Refused refusal) no is = subst (λ r. IsInputFault (faults.Refused r)) (sym is) (lengths_differ n m no)
-sizes_input path n m faults.OutOfMemory no is = tt
-sizes_input path n m faults.HostFault no is = absurd is
-sizes_input path n m faults.InboxFault no is = absurd is
+sizes_input path n m (faults.Refused refusal) differ is = subst (λ r. IsInputFault (faults.Refused r)) (sym is) (lengths_differ n m differ)
+sizes_input path n m faults.OutOfMemory differ is = tt
+sizes_input path n m faults.HostFault differ is = absurd is
+sizes_input path n m faults.InboxFault differ is = absurd is
 
 pub sizes_file : (path : Path) (told : Said) (m : ℕ) (fault : UpdateFault) → (told.size ≡ m → ⊥) → Tells fault (InputMismatch path Size (decimal told.size) (decimal m)) → FaultOfFile path told fault
-sizes_file path told m fault no is = differs_file path told Size (decimal told.size) (decimal m) fault is found (other_size told found no)
+sizes_file path told m fault differ is = differs_file path told Size (decimal told.size) (decimal m) fault is found (other_size told found differ)
   where
     found : Digests
     found = record { size = m; md5 = []; sha1 = []; sha256 = [] }

@@ -58,10 +58,10 @@ stated_small path said file le = ap (λ b. sized file b (or_differs path file (d
 
 -- another size
 pub stated_other : (path : Path) (said : Said) (content : Content) (size : ℕ) → Some size ≡ option_map length content → said.size ≤ limit_number Index → (size ≡ said.size → ⊥) → stated_bytes path said content ≡ Err (InputMismatch path Size (decimal said.size) (decimal size))
-stated_other path said None size e le no = cc
-stated_other path said (Some file) size e le no =
+stated_other path said None size e le differ = cc
+stated_other path said (Some file) size e le differ =
     let n : size ≡ length file = cc in
-    let differs = other_size said (digests_of file) (λ is. no (n ∙ sym is)) in
+    let differs = other_size said (digests_of file) (λ is. differ (n ∙ sym is)) in
     stated_small path said file le ∙ ap (or_differs path file) differs ∙ ap (λ k. Err (InputMismatch path Size (decimal said.size) (decimal k))) (sym n)
 
 -- what was read to its end
