@@ -76,11 +76,11 @@ Brings P (Ok arrivals.Nothing) = ⊥
 Brings P (Ok (arrivals.Refused refusal)) = ⊥
 Brings P (Err fault) = FaultMeets P fault
 
--- P of what was fetched, if something was
+-- what a call gives that isn't refused was fetched, and P holds of it
 abbrev pub IfFetched : Result Arrived UpdateFault → (Fetched → Type 0) → Type 0
 IfFetched (Ok (arrivals.List list date)) P = P (record { date = date; list = list })
-IfFetched (Ok arrivals.Nothing) P = Unit {0}
-IfFetched (Ok (arrivals.Refused refusal)) P = Unit {0}
+IfFetched (Ok arrivals.Nothing) P = ⊥
+IfFetched (Ok (arrivals.Refused refusal)) P = ⊥
 IfFetched (Err fault) P = Unit {0}
 
 -- ---- patterns
