@@ -78,6 +78,11 @@ pub if_err : {X : Type 0} (r : Result X UpdateFault) (P Q : UpdateFault → Type
 if_err (Ok x) P Q f h = tt
 if_err (Err fault) P Q f h = f fault h
 
+-- what ends early differs
+pub early_differ : (path at : Path) (what : What) (said found : List ℕ) → EndsEarlyIf path (InputMismatch at what said found) → AreDifferent what said found
+early_differ path at what said found h =
+    subst (λ (w : What). AreDifferent w said found) (sym h.1) (subst₂ (AreDifferent Size) (sym h.5) (sym h.6) (lengths_differ h.2 h.3 (λ e. omega (arith, e, h.4))))
+
 -- a file that isn't read within a limit
 pub unread_early : (limit : LimitKind) (path : Path) (n m : ℕ) (fault : UpdateFault) → m < n → Tells fault (InputMismatch path Size (decimal n) (decimal m)) → IsUnreadFault limit path fault
 unread_early limit path n m (faults.Refused refusal) lt is = subst (IsUnread limit path) (sym is) (refl, refl, n, m, lt, refl, refl)
@@ -91,8 +96,7 @@ unread_index path (faults.Refused refusal) h = by_refusal refusal h
     by_refusal : (r : Refusal) → IsUnread Index path r → IsInputFault (faults.Refused r)
     by_refusal (InputAbsent at) h = tt
     by_refusal (OverLimit passed) h = subst IsInputLimit (sym h) tt
-    by_refusal (InputMismatch at what said found) h =
-        subst (λ (w : What). AreDifferent w said found) (sym h.1) (subst₂ (AreDifferent Size) (sym h.5) (sym h.6) (lengths_differ h.2 h.3 (λ e. omega (arith, e, h.4))))
+    by_refusal (InputMismatch at what said found) h = early_differ path at what said found h
     by_refusal r h = absurd h
 unread_index path faults.OutOfMemory h = tt
 unread_index path faults.HostFault h = absurd h
