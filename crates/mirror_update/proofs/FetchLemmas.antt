@@ -1,5 +1,5 @@
 -- A file of the inbox that is read.
-use Rattle.std.proofs.Common.{◌≡◌, ◌≤◌, ℕ, List, length, Option, Some, Result, Ok, Err, IfErr, refl, sym, subst, arith, length-append}
+use Rattle.std.proofs.Common.{◌≡◌, ◌≤◌, ℕ, List, length, Option, Some, Result, Ok, Err, IfErr, IfOk, refl, sym, subst, arith, length-append}
 use Rattle.std.specs.Result.{MatchResult}
 use Rattle.ap_host.specs.Disk.{Path, Files}
 use Rattle.release_file.specs.Release.{ReleaseView, IsRelease}
@@ -13,7 +13,7 @@ use Rattle.package_intake.specs.Index.{IsUnread, IsUnreadFault, bytes_within}
 use Rattle.package_intake.specs.Steps.{FaultGives, Gives}
 use Rattle.package_intake.specs.Faults.{Tells}
 use Rattle.mirror_update.specs.Fetch.{FaultMeets, IsAbsentFault, IsFetched, IsMalformedBy, IsReleaseText, Meets, ReadBy, release_path}
-use Rattle.mirror_update.specs.Answers.{IsReleaseFault, IsReleaseRefusal}
+use Rattle.mirror_update.specs.Answers.{IsReleaseFault, IsReleaseRefusal, IsSomeRelease}
 
 module _ {X : Type 0} (Says : List ℕ → Result X ℕ → Type 0) (path : Path) (content : Result (List ℕ) Refusal) where
   -- the bytes aren't there
@@ -90,3 +90,12 @@ tells_absent path (faults.Refused refusal) h = subst (λ r. IsAbsentFault (fault
 tells_absent path faults.OutOfMemory h = tt
 tells_absent path faults.HostFault h = absurd h
 tells_absent path faults.InboxFault h = absurd h
+
+pub malformed_of : (mirror : MirrorView) (bytes : List ℕ) (result : Result ReleaseView UpdateFault) → MatchResult result (IsRelease bytes) (IsMalformedBy IsReleaseText (release_path mirror) bytes) → IfErr result (IsReleaseFault mirror)
+malformed_of mirror bytes (Ok release) h = tt
+malformed_of mirror bytes (Err fault) h = malformed_release mirror bytes fault h
+
+-- what was read is what some text says
+pub some_release : (bytes : List ℕ) (path : Path) (result : Result ReleaseView UpdateFault) → MatchResult result (IsRelease bytes) (IsMalformedBy IsReleaseText path bytes) → IfOk result IsSomeRelease
+some_release bytes path (Ok release) h = (bytes, h)
+some_release bytes path (Err fault) h = tt

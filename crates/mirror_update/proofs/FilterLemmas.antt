@@ -8,6 +8,7 @@ use Rattle.query_tree.specs.Tree.{Tree}
 use Rattle.query_eval.specs.Truth.{matches}
 use Rattle.package_list.specs.Sorted.{IsAscending, equal_of}
 use Rattle.package_list.specs.Lists.{has_member}
+use Rattle.package_list.proofs.Unions.{filter_ascending}
 use Rattle.depend_pull.specs.Pull.{taken_in_turn}
 use Rattle.depend_pull.specs.Pull as pull
 use Rattle.machine_state.specs.Lists.{IsKnown, IsNamedList}
@@ -40,6 +41,10 @@ each_kept P test (x ∷ xs) h = by_test (test x) (each_kept P test xs h.1)
 pub chosen_hold : (P : Card → Type 0) (tree : Option Tree) (deps : Bool) (archs : List (List ℕ)) (list : List Card) → AllByRecursion P list → AllByRecursion P (chosen_by tree deps archs list)
 chosen_hold P tree deps archs list h =
     let c = chosen_is tree deps archs list in subst (AllByRecursion P) (sym c.1) (each_kept P c.0 list h)
+
+pub chosen_ascending : (tree : Option Tree) (deps : Bool) (archs : List (List ℕ)) (list : List Card) → IsAscending package_cmp list → IsAscending package_cmp (chosen_by tree deps archs list)
+chosen_ascending tree deps archs list up =
+    let c = chosen_is tree deps archs list in subst (IsAscending package_cmp) (sym c.1) (filter_ascending package_total c.0 list up)
 
 -- of a list without clashes it is one by name
 pub chosen_named : (tree : Option Tree) (deps : Bool) (archs : List (List ℕ)) (list : List Card) → IsAscending package_cmp list → IsApart list → IsNamedList list (chosen_by tree deps archs list)

@@ -2,7 +2,7 @@
 -- chooses.
 use Rattle.std.specs.Prelude.{◌≡◌, ℕ, List, Result, Ok, Err}
 use Rattle.ap_text.specs.Paths.{below_folder}
-use Rattle.ap_host.specs.Disk.{Files}
+use Rattle.ap_host.specs.Disk.{Path, Files}
 use Rattle.package_core.specs.Card.{Card}
 use Rattle.package_list.specs.Lists.{union}
 use Rattle.package_list.specs.Answers.{join_answer}
@@ -28,10 +28,13 @@ chosen_of mirror release list = chosen_by mirror.filter mirror.with_deps (wanted
 abbrev pub knowable : List Card → List Card → Result (List Card) Refusal
 knowable known list = and_then (within_catalogue (union known list)) (λ _. Ok list)
 
--- the files of these packages are taken in, and they can be known
+-- the files of these packages, at these paths below a folder, are taken in, and they can be known
+abbrev pub files_arrive : Files → List Card → Path → (Card → Path) → List Card → Result (List Card) Refusal
+files_arrive files known folder path list = and_then (each_taken (λ p. taken_file files known (below_folder folder (path p)) p) list) (knowable known)
+
+-- the same of packages of an archive
 abbrev pub list_arrives : Files → List Card → MirrorView → List IndexEntry → List Card → Result (List Card) Refusal
-list_arrives files known mirror entries list =
-    and_then (each_taken (λ p. taken_file files known (below_folder mirror.archive (path_of entries p)) p) list) (knowable known)
+list_arrives files known mirror entries list = files_arrive files known mirror.archive (path_of entries) list
 
 -- what comes of the packages that the indexes say
 unfoldable pub entries_arrive : Files → List Card → MirrorView → ReleaseView → List IndexEntry → Result (List Card) Refusal

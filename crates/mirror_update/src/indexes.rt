@@ -25,12 +25,9 @@ use std::alloc::Global;
 fn listed_at<'a>(files: &'a [Listed], path: &SafePath) -> Option<&'a Listed>
     ensures { option_copied result ≡ file_at files.now path.now }
 {
-    for file in files {
-        if file.path.as_str() == path.as_str() {
-            return Some(file);
-        }
-    }
-    None
+    files
+        .iter()
+        .find(|file| file.path.as_str() == path.as_str())
 }
 
 /// What a Release says of a file.

@@ -1,6 +1,6 @@
 //! Which indexes of an archive are wanted for a mirror.
 ghost use Rattle.std.specs.Prelude.{◌≡◌, ◌++◌, ◌≤◌, IfOk, OnOk, All, map, codes, length, string_bytes};
-ghost use Rattle.mirror_update.specs.Wanted.{AreShortNames, arch_folder, arch_index, index_name, indexes_of, or_those, wanted_indexes};
+ghost use Rattle.mirror_update.specs.Wanted.{AreShortNames, arch_folder, arch_index, index_name, indexes_of, or_those, wanted_architectures, wanted_components, wanted_indexes};
 
 use ap_text::{Name, SafePath};
 use machine_state::Mirror;
@@ -11,10 +11,24 @@ use std::alloc::{AllocError, Global};
 const INDEX: &str = "Packages";
 
 /// These names, or those where there is none.
-pub(crate) fn names_or<'a>(own: &'a [Name], those: &'a [Name]) -> &'a [Name]
+fn names_or<'a>(own: &'a [Name], those: &'a [Name]) -> &'a [Name]
     ensures { result.now ≡ or_those own.now those.now }
 {
     if own.is_empty() { those } else { own }
+}
+
+/// The components that are wanted of an archive with this Release.
+fn components_of<'a>(mirror: &'a Mirror, release: &'a Release) -> &'a [Name]
+    ensures { result.now ≡ wanted_components mirror.now release.now }
+{
+    names_or(&mirror.components, &release.components)
+}
+
+/// The architectures that are.
+pub(crate) fn archs_of<'a>(mirror: &'a Mirror, release: &'a Release) -> &'a [Name]
+    ensures { result.now ≡ wanted_architectures mirror.now release.now }
+{
+    names_or(&mirror.architectures, &release.architectures)
 }
 
 /// The name of the folder of an architecture in its component.
@@ -94,7 +108,7 @@ pub(crate) fn wanted(
     ensures names { IfOk result (λ names. names.items ≡ wanted_indexes mirror.now release.now) }
     ensures short { IfOk result (λ names. AreShortNames names.items) }
 {
-    let components = names_or(&mirror.components, &release.components);
-    let archs = names_or(&mirror.architectures, &release.architectures);
+    let components = components_of(mirror, release);
+    let archs = archs_of(mirror, release);
     names_of_indexes(alloc, components, archs)
 }

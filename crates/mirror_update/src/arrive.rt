@@ -1,5 +1,5 @@
 //! A mirror is updated.
-ghost use Rattle.std.specs.Prelude.{◌≡◌, ◌≤◌, IfOk, IfErr, OnOk, Ok, Some, map, length};
+ghost use Rattle.std.specs.Prelude.{◌≡◌, ◌≤◌, All, IfOk, IfErr, IsSome, OnOk, Ok, Some, map, length};
 ghost use Rattle.std.specs.BTreeMap.{get};
 ghost use Rattle.std.specs.Option.{ForSome};
 ghost use Rattle.std.specs.Rc.{rc_value};
@@ -9,12 +9,18 @@ ghost use Rattle.index_text.specs.Index.{ArePackages};
 ghost use Rattle.machine_state.specs.declared.arrived.UpdateFault.TheVariants.{HostFault, InboxFault};
 ghost use Rattle.machine_state.specs.declared.limit.Limit.TheVariants.{Packages};
 ghost use Rattle.machine_state.specs.State.{IsCatalogue, Valid, mirror_of};
-ghost use Rattle.package_core.specs.Card.{Card};
+ghost use Rattle.ap_text.specs.Paths.{below_folder};
+ghost use Rattle.package_core.specs.Card.{Card, IsPackage};
 ghost use Rattle.package_core.specs.Order.{package_cmp};
+ghost use Rattle.package_core.specs.Whole.{IsSaid};
 ghost use Rattle.package_list.specs.Answers.{join_answer};
-ghost use Rattle.package_list.specs.Lists.{joined as joined_of};
+ghost use Rattle.package_list.specs.Lists.{joined as joined_of, union};
+ghost use Rattle.package_list.specs.Sorted.{IsAscending};
 ghost use Rattle.package_intake.specs.Additions.{AddsAll};
 ghost use Rattle.package_intake.specs.Faults.{FaultOfFiles, IsAnyFault, IsInputFault, IsOtherFault, IsOwnFault};
+ghost use Rattle.package_intake.specs.Catalogue.{within_catalogue};
+ghost use Rattle.package_intake.specs.Inside.{path_at};
+ghost use Rattle.package_intake.specs.Taking.{AreTakenIn};
 ghost use Rattle.package_intake.specs.Index.{AreShort, cards_of, entry_for, path_of};
 ghost use Rattle.package_intake.specs.Steps.{FaultGives, Gives, or_refused};
 ghost use Rattle.step_model.specs.Answers.{ToldBy};
@@ -23,14 +29,14 @@ ghost use Rattle.mirror_update.specs.Fetch.{IsShort, Meets, distribution_folder}
 ghost use Rattle.mirror_update.specs.Wanted.{wanted_indexes};
 ghost use Rattle.mirror_update.specs.Indexes.{FaultOfListed, IndexesSay};
 ghost use Rattle.mirror_update.specs.Filter.{chosen_by, conditions_of, queries_of};
-ghost use Rattle.mirror_update.specs.Arrival.{Arrives, entries_arrive};
+ghost use Rattle.mirror_update.specs.Arrival.{Arrives, entries_arrive, files_arrive};
 ghost use Rattle.mirror_update.specs.Answers.{Adds, Brings, FaultOfMirror, IfFetched, IsArchiveFault, IsUpdateFault, KeepsText, Updates, chosen_in};
 ghost use Rattle.mirror_update.specs.Fits.{FitsIn, FitsWith, IsKnowable};
 
 use crate::filter::{choose, prepared};
 use crate::indexes::read_all;
 use crate::release::{fetch_release, folder_of};
-use crate::wanted::{names_or, wanted};
+use crate::wanted::{archs_of, wanted};
 use ap_host::{Host, Inbox};
 use ap_text::{Name, SafePath};
 use control_stanza::Text;
@@ -86,6 +92,34 @@ fn choose_of(
     Ok((chosen, paths))
 }
 
+/// Takes in the files of packages, and looks whether these can be known.
+fn take_list<H: Host, I: Inbox>(
+    alloc: Global,
+    host: &mut H,
+    stage: &mut Stage,
+    inbox: &mut I,
+    known: &PackageList,
+    folder: &SafePath,
+    chosen: &[Rc<Package>],
+    paths: &Paths,
+) -> Result<PackageList, UpdateFault>
+    requires ascending { IsAscending package_cmp (map rc_value chosen.now) }
+    requires paths { All (λ p. IsSome (get package_cmp paths.now p)) (map rc_value chosen.now) }
+    ensures told { IsCatalogue known.now → All (λ p. length (below_folder folder.now (path_at paths.now p)) ≤ 1000) (map rc_value chosen.now) → ForSome (I.map inbox.old) (λ f. Gives result (files_arrive f known.now folder.now (path_at paths.now) (map rc_value chosen.now))) }
+    ensures taken { IfOk result (λ qs. IsCatalogue known.now → All (λ p. IsPackage p × IsSaid p.said) (map rc_value chosen.now) → AreTakenIn known.now (map rc_value chosen.now) qs) }
+    ensures checked { IfOk result (λ qs. within_catalogue (union known.now qs) ≡ Ok tt) }
+    ensures fault { IfErr result IsAnyFault }
+    ensures mismatch { IfErr result (FaultOfFiles folder.now (path_at paths.now) (map rc_value chosen.now)) }
+    ensures log { GoesOn (H.log host.old) (H.log host.new) (AddsAll (I.map inbox.old) (map rc_value chosen.now) known.now result stage.old stage.new) }
+    ensures map { I.map inbox.new ≡ I.map inbox.old }
+    ensures cause { CauseOf HostFault (H.faults host.old) (H.faults host.new) result }
+    ensures input { CauseOf InboxFault (I.faults inbox.old) (I.faults inbox.new) result }
+{
+    let list = take_each(alloc, host, stage, inbox, known, folder, chosen, paths)?;
+    check_known(alloc, known, &list)?;
+    Ok(list)
+}
+
 /// Takes in the packages of these that the filter chooses.
 fn take_chosen<H: Host, I: Inbox>(
     alloc: Global,
@@ -108,11 +142,18 @@ fn take_chosen<H: Host, I: Inbox>(
     ensures cause { CauseOf HostFault (H.faults host.old) (H.faults host.new) result }
     ensures input { CauseOf InboxFault (I.faults inbox.old) (I.faults inbox.new) result }
 {
-    let archs = names_or(&mirror.architectures, &release.architectures);
+    let archs = archs_of(mirror, release);
     let (chosen, paths) = choose_of(alloc, mirror, queries, archs, entries)?;
-    let list = take_each(alloc, host, stage, inbox, known, &mirror.archive, &chosen, &paths)?;
-    check_known(alloc, known, &list)?;
-    Ok(list)
+    take_list(
+        alloc,
+        host,
+        stage,
+        inbox,
+        known,
+        &mirror.archive,
+        &chosen,
+        &paths,
+    )
 }
 
 /// Takes in what the archive has.
