@@ -20,14 +20,14 @@ use Rattle.step_model.specs.Names.{bad_name}
 use Rattle.step_model.specs.Lawful.{CommandLaw, IsLawful}
 use Rattle.step_model.specs.Queries.{found_by}
 use Rattle.step_model.specs.Refuses.{IsReadable, reading}
-use Rattle.snapshot_ops.specs.Cases.{MayArrive, bad_among, bad_copy, bad_drop, bad_empty, bad_filter, bad_merge, bad_rename, bad_snapshot, copy_case, drop_case, empty_case, filter_case, list_of, merge_case, rename_case, repo_list_of, search_case, show_case, shown, snapshot_case, snapshot_renamed_in, taken, unknown, unknown_among, unknown_repo, without_following, without_snapshot}
+use Rattle.snapshot_ops.specs.Cases.{MayArrive, bad_among, bad_copy, bad_drop, bad_empty, bad_fetched, bad_filter, bad_merge, bad_rename, bad_snapshot, copy_case, drop_case, empty_case, fetched_case, fetched_list_of, filter_case, list_of, merge_case, rename_case, repo_list_of, search_case, show_case, shown, never_updated, snapshot_case, snapshot_renamed_in, taken, unknown, unknown_among, unknown_mirror, unknown_repo, without_following, without_snapshot}
 use Rattle.snapshot_pull.specs.Pulls.{flags_of}
 use Rattle.snapshot_pull.proofs.LawfulLemmas.{pull_lawful, pull_reads}
 use Rattle.snapshot_ops.specs.Merges.{merge_of, way_of}
 use Rattle.snapshot_ops.specs.Replies as own
 use Rattle.snapshot_ops.proofs.CaseLemmas.{first_none, follows_not, follows_unbuilt, second_none}
 use Rattle.snapshot_ops.proofs.JoinLemmas.{named_behind}
-use Rattle.snapshot_ops.proofs.LawLemmas.{Keeps, asking_law, changing, created_keeps, front_some, line_some, list_named, lists_named, made_keeps, merge_own, name_is, own_bad, own_else, own_missing, own_name, own_repo, own_snapshot, own_taken, own_unknown, own_used, plain_law, repo_list_named, telling}
+use Rattle.snapshot_ops.proofs.LawLemmas.{Keeps, asking_law, changing, created_keeps, fetched_list_named, front_some, line_some, list_named, lists_named, made_keeps, merge_own, name_is, own_bad, own_else, own_mirror, own_missing, own_name, own_repo, own_snapshot, own_taken, own_unknown, own_updated, own_used, plain_law, repo_list_named, telling}
 use Rattle.snapshot_ops.proofs.StateLemmas.{valid_dropped, valid_renamed}
 
 module _ (state : StateView) (May : Arrived → Type 0) where
@@ -45,6 +45,14 @@ module _ (state : StateView) (May : Arrived → Type 0) where
       (created_keeps state (bad_copy state name repo) name (λ e. name_is name (first_none (bad_name name) _ e))
       (own_else (bad_name name) _ (own_name name) (own_else (bad_name repo) _ (own_name repo) (own_else (taken state.snapshots name) (unknown_repo state.repos repo) (own_taken state.snapshots name) (own_repo state.repos repo))))
       (repo_list_of state repo) (λ v e. repo_list_named state repo v))
+
+  fetched_law : (name mirror : List ℕ) → IsLawful state May (fetched_case state name mirror)
+  fetched_law name mirror =
+      plain_law state May (bad_fetched state name mirror) _
+      (created_keeps state (bad_fetched state name mirror) name (λ e. name_is name (first_none (bad_name name) _ e))
+      (own_else (bad_name name) _ (own_name name) (own_else (bad_name mirror) _ (own_name mirror) (own_else (taken state.snapshots name) _ (own_taken state.snapshots name)
+      (own_else (unknown_mirror state.mirrors mirror) (never_updated state mirror) (own_mirror state.mirrors mirror) (own_updated state mirror)))))
+      (fetched_list_of state mirror) (λ v e. fetched_list_named state mirror v))
 
   filter_law : (source destination : List ℕ) (queries : List (List ℕ)) → IsLawful state May (filter_case state source destination queries)
   filter_law source destination queries =
@@ -135,6 +143,7 @@ pub lawful : (c : SnapshotCommand) → CommandLaw (λ state. snapshot_case state
 unfolding snapshot_case
 lawful (snapshot_create name origins.Empty) = inr (λ inbox state. empty_law state _ name)
 lawful (snapshot_create name (origins.Repo repo)) = inr (λ inbox state. copy_law state _ name repo)
+lawful (snapshot_create name (origins.Mirror mirror)) = inr (λ inbox state. fetched_law state _ name mirror)
 lawful snapshot_list = inr (λ inbox state. list_law state _)
 lawful (snapshot_show packages name) = inr (λ inbox state. show_law state _ (unwrap_or packages false) name)
 lawful (snapshot_filter deps follow source destination queries) = following_law deps follow (λ state. filter_case state source destination queries) (λ state May. filter_law state May source destination queries)
@@ -143,7 +152,6 @@ lawful (snapshot_pull all dry no_deps no_remove follow name source destination q
 lawful (snapshot_search deps follow name query) = following_law deps follow (λ state. search_case state name query) (λ state May. search_law state May name query)
 lawful (snapshot_rename before after) = inr (λ inbox state. rename_law state _ before after)
 lawful (snapshot_drop name) = inr (λ inbox state. drop_law state _ name)
-lawful c = inl (λ state. refl)
 
 -- ---- what is read
 
@@ -162,6 +170,7 @@ pub snapshot_reads : (state : StateView) (c : SnapshotCommand) → IsReadable (r
 unfolding snapshot_case
 snapshot_reads state (snapshot_create name origins.Empty) = nothing_read _
 snapshot_reads state (snapshot_create name (origins.Repo repo)) = nothing_read _
+snapshot_reads state (snapshot_create name (origins.Mirror mirror)) = nothing_read _
 snapshot_reads state snapshot_list = tt
 snapshot_reads state (snapshot_show packages name) = nothing_read _
 snapshot_reads state (snapshot_filter deps follow source destination queries) = following_read deps follow _ (nothing_read _)
@@ -170,4 +179,3 @@ snapshot_reads state (snapshot_pull all dry no_deps no_remove follow name source
 snapshot_reads state (snapshot_search deps follow name query) = following_read deps follow _ (nothing_read _)
 snapshot_reads state (snapshot_rename before after) = nothing_read _
 snapshot_reads state (snapshot_drop name) = nothing_read _
-snapshot_reads state c = tt

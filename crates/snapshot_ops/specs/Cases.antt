@@ -4,15 +4,16 @@ use Rattle.std.specs.Option.{is_some}
 use Rattle.package_core.specs.Card.{Card}
 use Rattle.command_value.specs.declared.command.Origin.TheVariants as origins
 use Rattle.command_value.specs.Plain.{SnapshotCommand, PlainFollow, follows, snapshot_create, snapshot_list, snapshot_show, snapshot_filter, snapshot_merge, snapshot_pull, snapshot_search, snapshot_rename, snapshot_drop}
+use Rattle.machine_state.specs.declared.fetched.Fetched.{Fetched}
 use Rattle.machine_state.specs.declared.limit.Kind.TheVariants as kinds
 use Rattle.machine_state.specs.declared.refusal.Refusal.{Refusal}
-use Rattle.machine_state.specs.declared.refusal.Refusal.TheVariants.{Unknown}
+use Rattle.machine_state.specs.declared.refusal.Refusal.TheVariants.{NotUpdated, Unknown}
 use Rattle.machine_state.specs.declared.repo.Repo.{Repo}
 use Rattle.machine_state.specs.declared.snapshot.Snapshot.{Snapshot}
 use Rattle.machine_state.specs.Named.{dropped, renamed}
 use Rattle.machine_state.specs.Sources.{in_use, source_renamed}
-use Rattle.machine_state.specs.State.{repo_of, snapshot_name, snapshot_of}
-use Rattle.machine_state.specs.Values.{StateView}
+use Rattle.machine_state.specs.State.{mirror_of, repo_of, snapshot_name, snapshot_of}
+use Rattle.machine_state.specs.Values.{MirrorView, StateView}
 use Rattle.query_grammar.specs.Said.{query_of}
 use Rattle.reply_text.specs.Replies.{package_search}
 use Rattle.reply_text.specs.Snapshots as replies
@@ -52,6 +53,30 @@ repo_list_in (Some repo) = repo.list
 abbrev pub repo_list_of : StateView → List ℕ → List Card
 repo_list_of state name = repo_list_in (repo_of name state.repos)
 
+-- no mirror has the name
+abbrev pub unknown_mirror : List MirrorView → List ℕ → Option Refusal
+unknown_mirror mirrors name = if is_some (mirror_of name mirrors) then None else Some (Unknown kinds.Mirror name)
+
+abbrev pub fetched_in : Option MirrorView → Option Fetched
+fetched_in None = None
+fetched_in (Some mirror) = mirror.updated
+
+-- what the mirror of that name fetched last, if it was ever updated
+abbrev pub fetched_of : StateView → List ℕ → Option Fetched
+fetched_of state name = fetched_in (mirror_of name state.mirrors)
+
+-- the mirror of that name was never updated
+abbrev pub never_updated : StateView → List ℕ → Option Refusal
+never_updated state name = if is_some (fetched_of state name) then None else Some (NotUpdated name)
+
+abbrev pub fetched_list_in : Option Fetched → List Card
+fetched_list_in None = []
+fetched_list_in (Some fetched) = fetched.list
+
+-- the list of the mirror of that name
+abbrev pub fetched_list_of : StateView → List ℕ → List Card
+fetched_list_of state name = fetched_list_in (fetched_of state name)
+
 -- ---- a new snapshot
 
 -- a snapshot more, of this name and this list, where there is room for it
@@ -76,6 +101,14 @@ bad_copy state name repo = or_else (bad_name name) (or_else (bad_name repo) (or_
 
 abbrev pub copy_case : StateView → List ℕ → List ℕ → Case
 copy_case state name repo = plain_case (bad_copy state name repo) (created state name (repo_list_of state repo))
+
+-- one of what a mirror fetched last
+abbrev pub bad_fetched : StateView → List ℕ → List ℕ → Option Refusal
+bad_fetched state name mirror =
+    or_else (bad_name name) (or_else (bad_name mirror) (or_else (taken state.snapshots name) (or_else (unknown_mirror state.mirrors mirror) (never_updated state mirror))))
+
+abbrev pub fetched_case : StateView → List ℕ → List ℕ → Case
+fetched_case state name mirror = plain_case (bad_fetched state name mirror) (created state name (fetched_list_of state mirror))
 
 -- one of what queries choose of another. What follows dependencies isn't built.
 abbrev pub bad_filter : StateView → List ℕ → List ℕ → Option Refusal
@@ -143,10 +176,11 @@ drop_case state name = plain_case (bad_drop state name) (changes (own.snapshot_d
 
 -- ---- all of them
 
--- What each command of snapshots is in a state. What follows dependencies isn't built yet, nor what reads mirrors.
+-- What each command of snapshots is in a state. What follows dependencies isn't built yet.
 unfoldable pub snapshot_case : StateView → SnapshotCommand → Case
 snapshot_case state (snapshot_create name origins.Empty) = empty_case state name
 snapshot_case state (snapshot_create name (origins.Repo repo)) = copy_case state name repo
+snapshot_case state (snapshot_create name (origins.Mirror mirror)) = fetched_case state name mirror
 snapshot_case state snapshot_list = plain_case None (changes (replies.snapshot_list state.snapshots) state)
 snapshot_case state (snapshot_show packages name) = show_case state (unwrap_or packages false) name
 snapshot_case state (snapshot_filter deps follow source destination queries) = without_following deps follow (filter_case state source destination queries)
@@ -155,4 +189,3 @@ snapshot_case state (snapshot_pull all dry no_deps no_remove follow name source 
 snapshot_case state (snapshot_search deps follow name query) = without_following deps follow (search_case state name query)
 snapshot_case state (snapshot_rename before after) = rename_case state before after
 snapshot_case state (snapshot_drop name) = drop_case state name
-snapshot_case state command = unbuilt

@@ -2,12 +2,12 @@
 ghost use Rattle.std.specs.Prelude.{◌≡◌, IfOk, IfErr, OnOk, None, Some};
 ghost use Rattle.machine_state.specs.State.{Valid, repo_of, snapshot_of};
 ghost use Rattle.step_model.specs.Answers.{IsFirst};
-ghost use Rattle.snapshot_ops.specs.Cases.{bad_copy, bad_drop, bad_empty, bad_filter, bad_merge, bad_rename, bad_snapshot};
+ghost use Rattle.snapshot_ops.specs.Cases.{bad_copy, bad_drop, bad_empty, bad_fetched, bad_filter, bad_merge, bad_rename, bad_snapshot, fetched_of};
 
-use crate::checks::{all_there, names_of, repo_there, unused};
+use crate::checks::{all_there, fetched_there, names_of, repo_there, unused};
 use ap_text::Name;
 use control_stanza::Text;
-use machine_state::{ChangeFault, Repo, Snapshot, State};
+use machine_state::{ChangeFault, Fetched, Repo, Snapshot, State};
 use snapshot_pull::{free, there};
 use std::alloc::Global;
 use step_model::name_of;
@@ -40,6 +40,25 @@ pub(crate) fn copy_early<'a>(
     free(alloc, state, &name)?;
     let repo = repo_there(alloc, state, &of)?;
     Ok((name, repo))
+}
+
+/// The name of a new snapshot, and what the mirror that it is made of fetched last: both are names before one is looked for.
+pub(crate) fn fetched_early<'a>(
+    alloc: Global,
+    state: &'a State,
+    text: &Text,
+    mirror: &Text,
+) -> Result<(Name, &'a Fetched), ChangeFault>
+    ensures good { Valid state.now → OnOk result (bad_fetched state.now text.now mirror.now ≡ None) }
+    ensures fault { Valid state.now → IfErr result (IsFirst (bad_fetched state.now text.now mirror.now)) }
+    ensures name { IfOk result (λ made. made.0 ≡ text.now) }
+    ensures found { Valid state.now → IfOk result (λ made. fetched_of state.now mirror.now ≡ Some made.1.now) }
+{
+    let name = name_of(alloc, text)?;
+    let of = name_of(alloc, mirror)?;
+    free(alloc, state, &name)?;
+    let fetched = fetched_there(alloc, state, &of)?;
+    Ok((name, fetched))
 }
 
 /// The snapshot that a text names.

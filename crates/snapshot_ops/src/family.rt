@@ -3,11 +3,12 @@ ghost use Rattle.std.specs.Prelude.{◌≡◌, ◌≤◌, Bool, IfOk, IfErr, Non
 ghost use Rattle.command_value.specs.Plain.{SnapshotCommand, plain, plain_follow, of_snapshot, snapshot_create};
 ghost use Rattle.step_model.specs.Answers.{KeepsText};
 ghost use Rattle.snapshot_ops.specs.Answers.{IsBarred, IsBarredTold, IsDone, IsNeeded, IsOther, IsRefusedTold};
-ghost use Rattle.snapshot_ops.specs.Cases.{copy_case, drop_case, empty_case, filter_case, merge_case, rename_case, search_case, show_case, snapshot_case, without_following};
+ghost use Rattle.snapshot_ops.specs.Cases.{copy_case, drop_case, empty_case, fetched_case, filter_case, merge_case, rename_case, search_case, show_case, snapshot_case, without_following};
 
 use crate::creation::create;
 use crate::early::{
-    copy_early, drop_early, empty_early, filter_early, merge_early, named_snapshot, rename_early,
+    copy_early, drop_early, empty_early, fetched_early, filter_early, merge_early, named_snapshot,
+    rename_early,
 };
 use crate::filtering::{filter, search};
 use crate::merging::merge;
@@ -42,6 +43,19 @@ fn copy_needs(
     Ok(Reading::Nothing)
 }
 
+fn fetched_needs(
+    alloc: Global,
+    state: &State,
+    name: &Text,
+    mirror: &Text,
+) -> Result<Reading, ChangeFault>
+    ensures ok { IsNeeded state.now (fetched_case state.now name.now mirror.now) result }
+    ensures fault { IsBarred state.now (fetched_case state.now name.now mirror.now) result }
+{
+    fetched_early(alloc, state, name, mirror)?;
+    Ok(Reading::Nothing)
+}
+
 fn create_needs(
     alloc: Global,
     state: &State,
@@ -54,7 +68,7 @@ fn create_needs(
     match origin {
         Origin::Empty => empty_needs(alloc, state, name),
         Origin::Repo(repo) => copy_needs(alloc, state, name, repo),
-        Origin::Mirror(_) => Err(ChangeFault::Refused(Refusal::NotBuilt)),
+        Origin::Mirror(mirror) => fetched_needs(alloc, state, name, mirror),
     }
 }
 
