@@ -65,9 +65,13 @@ fetched_in (Some mirror) = mirror.updated
 abbrev pub fetched_of : StateView → List ℕ → Option Fetched
 fetched_of state name = fetched_in (mirror_of name state.mirrors)
 
+-- a mirror that fetched this was never updated
+abbrev pub never_in : Option Fetched → List ℕ → Option Refusal
+never_in fetched name = if is_some fetched then None else Some (NotUpdated name)
+
 -- the mirror of that name was never updated
 abbrev pub never_updated : StateView → List ℕ → Option Refusal
-never_updated state name = if is_some (fetched_of state name) then None else Some (NotUpdated name)
+never_updated state name = never_in (fetched_of state name) name
 
 abbrev pub fetched_list_in : Option Fetched → List Card
 fetched_list_in None = []

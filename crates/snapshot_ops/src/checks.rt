@@ -4,7 +4,7 @@ ghost use Rattle.machine_state.specs.Sources.{in_use as use_of};
 ghost use Rattle.machine_state.specs.State.{Valid, mirror_of, repo_of};
 ghost use Rattle.machine_state.specs.declared.limit.Kind.TheVariants as kinds;
 ghost use Rattle.step_model.specs.Answers.{IsFirst};
-ghost use Rattle.snapshot_ops.specs.Cases.{bad_among, fetched_of, never_updated, unknown_among, unknown_mirror, unknown_repo};
+ghost use Rattle.snapshot_ops.specs.Cases.{bad_among, fetched_of, never_in, never_updated, unknown_among, unknown_mirror, unknown_repo};
 ghost use Rattle.step_model.specs.Case.{or_else};
 
 use ap_text::Name;
@@ -70,6 +70,22 @@ fn mirror_there<'a>(
     }
 }
 
+/// What a mirror of this name fetched last. One that was never updated is refused so.
+fn updated_of<'a>(
+    alloc: Global,
+    mirror: &'a Mirror,
+    name: &Name,
+) -> Result<&'a Fetched, ChangeFault>
+    ensures good { OnOk result (never_in mirror.now.updated name.now ≡ None) }
+    ensures fault { IfErr result (IsFirst (never_in mirror.now.updated name.now)) }
+    ensures found { IfOk result (λ fetched. mirror.now.updated ≡ Some fetched.now) }
+{
+    match &mirror.updated {
+        Some(fetched) => Ok(fetched),
+        None => Err(ChangeFault::Refused(Refusal::NotUpdated(name.copy(alloc)?))),
+    }
+}
+
 /// What the mirror of this name fetched last. Where there is no such mirror it is unknown, and one that was never updated is refused so.
 pub(crate) fn fetched_there<'a>(
     alloc: Global,
@@ -81,10 +97,7 @@ pub(crate) fn fetched_there<'a>(
     ensures found { Valid state.now → IfOk result (λ fetched. fetched_of state.now name.now ≡ Some fetched.now) }
 {
     let mirror = mirror_there(alloc, state, name)?;
-    match &mirror.updated {
-        Some(fetched) => Ok(fetched),
-        None => Err(ChangeFault::Refused(Refusal::NotUpdated(name.copy(alloc)?))),
-    }
+    updated_of(alloc, mirror, name)
 }
 
 /// No publication uses the snapshot. One that is used is refused, with the first publication that does.
