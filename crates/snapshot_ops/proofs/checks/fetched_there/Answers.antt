@@ -15,7 +15,7 @@ returns-in_err-mirror-clause-fault c = λ v.
 pub returns-clause-good : goal.returns-clause-good
 returns-clause-good c = λ v.
     let name = c.args.name.now in
-    on_ok_weaker c.updated_of.result _ _
+    on_ok_weaker c.updated_of.result
     (λ e. both_none _ (never_updated c.args.state.now name) (c.in_ok-mirror.ensures.good v) (ap (λ (o : Option Fetched). never_in o name) (ap fetched_in (c.in_ok-mirror.ensures.found v)) ∙ e))
     c.updated_of.ensures.good
 
