@@ -2,7 +2,7 @@
 use Rattle.std.proofs.Common.{◌≡◌, ◌≢◌, ℕ, List, [], ◌∷◌, ◌++◌, length, Option, Some, None, Bool, true, false, Result, Ok, Err, refl, ap, arith, rules, inl}
 use Rattle.std.specs.Option.{IfSome, is_some}
 use Rattle.std.specs.Bool.{nat_le, if◌then◌else◌}
-use Rattle.std.specs.Str.{IsUtf8, is_utf8}
+use Rattle.std.specs.Str.{is_utf8}
 use Rattle.std.proofs.lemmas.Str.{IsUtf8-from_is_utf8}
 use Rattle.std.proofs.lemmas.List.{length-append}
 use Rattle.ap_text.specs.Names.{is_name}
@@ -20,7 +20,7 @@ use Rattle.machine_state.specs.Texts.{IsFilter, is_path}
 use Rattle.machine_state.specs.Values.{MirrorView, StateView}
 use Rattle.reply_text.specs.Mirrors as replies
 use Rattle.reply_text.specs.Words.{line}
-use Rattle.step_model.specs.Case.{Came, asking_case, bad_queries, changes, refuses, or_else, plain_case}
+use Rattle.step_model.specs.Case.{Came, asking_case, bad_queries, changes, refuses, plain_case}
 use Rattle.step_model.specs.Names.{bad_name}
 use Rattle.step_model.specs.Lawful.{IfChanges, IfRefuses, IsFrom, IsLawful}
 use Rattle.step_model.proofs.AskingLemmas.{own_queries}

@@ -1,5 +1,5 @@
 -- Laws of the cases of mirrors.
-use Rattle.std.proofs.Common.{◌≡◌, ◌≢◌, ℕ, List, [], Option, Some, None, Bool, true, false, unwrap_or, refl, inl, inr}
+use Rattle.std.proofs.Common.{◌≢◌, ℕ, List, [], Option, Some, None, Bool, true, false, unwrap_or, refl, inl, inr}
 use Rattle.std.specs.Bool.{if◌then◌else◌}
 use Rattle.command_value.specs.Plain.{MirrorCommand, mirror_create, mirror_list, mirror_show, mirror_rename, mirror_drop}
 use Rattle.machine_state.specs.declared.arrived.Arrived.{Arrived}

@@ -5,7 +5,7 @@ use Rattle.std.specs.Result.{OnOk}
 use Rattle.machine_state.specs.declared.arrived.Arrived.{Arrived}
 use Rattle.machine_state.specs.Ascending.{IsAscending, put}
 use Rattle.machine_state.specs.Named.{dropped, put_some, renamed}
-use Rattle.machine_state.specs.State.{Valid, mirror_cmp, mirror_name, mirror_of}
+use Rattle.machine_state.specs.State.{mirror_cmp, mirror_name, mirror_of}
 use Rattle.machine_state.specs.Values.{MirrorView, StateView}
 use Rattle.machine_state.proofs.AscendingLemmas.{filter_ascending}
 use Rattle.machine_state.proofs.NamedLemmas.{dropped_gone, renamed_has}

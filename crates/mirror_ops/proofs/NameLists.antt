@@ -1,7 +1,6 @@
 -- Names in the order of their bytes, each once.
-use Rattle.std.proofs.Common.{◌≡◌, ℕ, List, [], ◌∷◌, ◌++◌, Bool, true, false, Option, Some, None, All, IsTrue, refl, ap, sym, ◌∙◌, Ordering, Less, Equal, Greater}
+use Rattle.std.proofs.Common.{◌≡◌, ℕ, List, [], ◌∷◌, ◌++◌, Bool, true, false, None, All, IsTrue, refl, ap, sym, ◌∙◌, Ordering, Less, Equal, Greater}
 use Rattle.std.specs.Ordering.{ordering_reverse, match_ordering}
-use Rattle.std.specs.Bool.{if◌then◌else◌}
 use Rattle.std.specs.BTreeSet.{insert_key}
 use Rattle.std.proofs.lemmas.Cmp.{nat_list_cmp_total}
 use Rattle.std.proofs.lemmas.List.Elements.{All-cons, All-head, All-nil, All-tail}
@@ -11,8 +10,6 @@ use Rattle.package_list.specs.Sorted.{put, placed, union}
 use Rattle.package_list.proofs.Gathers.{union_push}
 use Rattle.package_list.proofs.SortedLemmas.{union_ascending}
 use Rattle.machine_state.specs.Ascending as own
-use Rattle.machine_state.specs.declared.refusal.Refusal.{Refusal}
-use Rattle.machine_state.specs.declared.refusal.Refusal.TheVariants.{BadName}
 use Rattle.machine_state.specs.Texts.{AreNames}
 use Rattle.step_model.proofs.OwnLemmas.{first_none, second_none}
 use Rattle.mirror_ops.specs.declared.names.Part.{Part}

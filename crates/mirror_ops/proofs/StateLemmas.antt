@@ -1,6 +1,5 @@
 -- Valid states with a mirror more, with one less, and with one of another name. No publication has a mirror among its sources.
 use Rattle.std.proofs.Common.{◌≡◌, ℕ, ◌<◌, true, List, length}
-use Rattle.std.specs.Option.{IfSome}
 use Rattle.ap_text.specs.Names.{is_name}
 use Rattle.machine_state.specs.declared.limit.Kind.TheVariants as kinds
 use Rattle.machine_state.specs.Mirrors.{IsMirror, MirrorLists}

@@ -1,10 +1,10 @@
-use Rattle.std.proofs.Common.{◌≡◌, ◌∙◌, ap, sym, None}
+use Rattle.std.proofs.Common.{◌∙◌, ap, sym}
 use Rattle.std.proofs.lemmas.Result.{IfOk-weaker}
 use Rattle.machine_state.specs.Values.{MirrorView}
 use Rattle.step_model.proofs.AskingLemmas.{asking_comes, first_told, queries_told, refused_told}
 use Rattle.step_model.proofs.FaultLemmas.{at_exit, err_map, fault_map, keeps_exit}
 use Rattle.step_model.proofs.OwnLemmas.{second_none}
-use Rattle.mirror_ops.specs.Cases.{bad_create, created, taken}
+use Rattle.mirror_ops.specs.Cases.{created, taken}
 use Rattle.mirror_ops.specs.Settings.{asked, filtered}
 use Rattle.mirror_ops.proofs.CaseLemmas.{asking_told}
 use Rattle.mirror_ops.proofs.creation.create_with.Goals as goal

@@ -1,5 +1,4 @@
-use Rattle.std.proofs.Common.{◌≡◌, ℕ, List, Option, refl, arith}
-use Rattle.machine_state.specs.declared.refusal.Refusal.{Refusal}
+use Rattle.std.proofs.Common.{ℕ, List, refl, arith}
 use Rattle.step_model.proofs.FaultLemmas.{at_exit}
 use Rattle.mirror_ops.specs.Settings.{bad_among, bad_word, fits}
 use Rattle.mirror_ops.proofs.ListLemmas.{all_good, first_bad, good_more}

@@ -1,4 +1,4 @@
-use Rattle.std.proofs.Common.{ap, subst, ◌≡◌, List}
+use Rattle.std.proofs.Common.{subst, ◌≡◌, List}
 use Rattle.std.specs.Result.{OnOk}
 use Rattle.machine_state.specs.Ascending.{IsAscending, put}
 use Rattle.machine_state.specs.State.{mirror_cmp}
