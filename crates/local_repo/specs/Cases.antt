@@ -46,7 +46,7 @@ abbrev pub repo_renamed_in : StateView → List ℕ → List ℕ → StateView
 repo_renamed_in state before after =
     record state { repos = renamed repo_name called before after state.repos; publications = map (source_renamed kinds.Repo before after) state.publications }
 
--- What each command of repositories is in a state. What follows dependencies isn't built yet.
+-- What each command of repositories is in a state. What reads a mirror isn't built yet.
 unfoldable pub repo_case : StateView → RepoCommand → Case
 repo_case state (repo_create comment distribution component name) =
     plain_case (or_else (bad_settings comment distribution component) (or_else (bad_name name) (taken state.repos name))) (created state (edited comment distribution component (bare_repo name)))

@@ -41,39 +41,19 @@ pub fn needs<M: Patterns>(
             removal_needs(alloc, state, name, queries, patterns)
         }
         Command::RepoCopy {
-            with_deps,
             follow,
             source,
             destination,
             queries,
             ..
-        } => pair_needs(
-            alloc,
-            state,
-            with_deps,
-            follow,
-            source,
-            destination,
-            queries,
-            patterns,
-        ),
+        } => pair_needs(alloc, state, follow, source, destination, queries, patterns),
         Command::RepoMove {
-            with_deps,
             follow,
             source,
             destination,
             queries,
             ..
-        } => pair_needs(
-            alloc,
-            state,
-            with_deps,
-            follow,
-            source,
-            destination,
-            queries,
-            patterns,
-        ),
+        } => pair_needs(alloc, state, follow, source, destination, queries, patterns),
         _ => named_needs(alloc, state, command),
     }
 }

@@ -61,7 +61,7 @@ pub fn remove<M: Patterns>(
 /// `repo copy`: the packages of the source of which some query is true join the destination. Of two equal ones the destination's stays.
 /// It is refused as `Conflict` where one of them and another package of the destination have one name, version and architecture,
 /// and then as `Limit(Packages)` where they are too many. A dry run makes the same checks, tells which would come, and changes
-/// nothing. What follows dependencies isn't built yet. It needs a command of that verb.
+/// nothing. With `-with-deps` what they depend on of the source joins too. It needs a command of that verb.
 pub fn copy<M: Patterns>(
     alloc: Global,
     state: &State,
@@ -100,8 +100,8 @@ pub fn copy<M: Patterns>(
 }
 
 /// `repo move`: the packages of the source of which some query is true join the destination, as `repo copy` has it, and leave the
-/// source. A dry run makes the same checks, tells which would leave and which would come, and changes nothing. What follows
-/// dependencies isn't built yet. It needs a command of that verb.
+/// source. A dry run makes the same checks, tells which would leave and which would come, and changes nothing. With
+/// `-with-deps` what they depend on of the source moves with them. It needs a command of that verb.
 pub fn transfer<M: Patterns>(
     alloc: Global,
     state: &State,

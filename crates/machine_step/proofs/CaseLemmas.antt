@@ -3,7 +3,7 @@ use Rattle.std.proofs.Common.{◌≡◌, ◌≢◌, ◌⊎◌, ℕ, ℤ, List, [
 use Rattle.std.specs.Bool.{if◌then◌else◌}
 use Rattle.std.proofs.lemmas.List.{length-append}
 use Rattle.package_core.specs.Card.{Card}
-use Rattle.command_words.specs.Plain.{PlainCommand, RepoCommand, SnapshotCommand, OtherCommand, of_mirror, of_repo, of_snapshot, of_publish, of_other, package_search, package_show}
+use Rattle.command_words.specs.Plain.{PlainCommand, MirrorCommand, RepoCommand, SnapshotCommand, OtherCommand, of_mirror, of_repo, of_snapshot, of_publish, of_other, package_search, package_show}
 use Rattle.machine_state.specs.declared.arrived.Arrived.{Arrived}
 use Rattle.machine_state.specs.Values.{StateView}
 use Rattle.reply_text.specs.Words.{line}
@@ -16,6 +16,9 @@ use Rattle.local_repo.specs.Cases.{repo_case}
 use Rattle.snapshot_ops.specs.Cases as snapshots
 use Rattle.snapshot_ops.specs.Cases.{snapshot_case}
 use Rattle.snapshot_ops.proofs.LawfulLemmas.{lawful, snapshot_reads}
+use Rattle.mirror_ops.specs.Cases as mirrors
+use Rattle.mirror_ops.specs.Cases.{mirror_case}
+use Rattle.mirror_ops.proofs.LawfulLemmas as mirror_laws
 use Rattle.machine_step.specs.Causes.{IsUnbuilt}
 use Rattle.machine_step.specs.Step.{Given, MayArrive, case_of, other_case, read_for}
 use Rattle.machine_step.proofs.FamilyLemmas.{arrives_repo}
@@ -85,6 +88,20 @@ snapshot_command c (inr l) = inr (λ given large state.
       comes = λ arrived may. own.comes arrived tt;
     })
 
+mirror_command : (c : MirrorCommand) → CommandLaw (λ state. mirror_case state c) mirrors.MayArrive → IsUnbuilt (of_mirror c) ⊎ IsLawfulCommand (of_mirror c)
+unfolding case_of
+mirror_command c (inl e) = inl (λ now state. e state)
+mirror_command c (inr l) = inr (λ given large state.
+    let own = l given.inbox state in
+    record {
+      valid = λ v early late arrived may. own.valid v early late arrived tt;
+      says = own.says;
+      knows = own.knows;
+      early = own.early;
+      late = own.late;
+      comes = λ arrived may. own.comes arrived tt;
+    })
+
 other_command : (c : OtherCommand) → IsUnbuilt (of_other c) ⊎ IsLawfulCommand (of_other c)
 unfolding case_of other_case
 other_command (package_search query) = inr (λ given large state. asking_lawful state _ query replies.package_search searched_some)
@@ -95,7 +112,7 @@ pub command_built : RepoLaw → (c : PlainCommand) → IsUnbuilt c ⊎ IsLawfulC
 unfolding case_of
 command_built law (of_repo c) = repo_command c (law c)
 command_built law (of_other c) = other_command c
-command_built law (of_mirror c) = inl (λ now state. refl)
+command_built law (of_mirror c) = mirror_command c (mirror_laws.lawful c)
 command_built law (of_snapshot c) = snapshot_command c (lawful c)
 command_built law (of_publish c) = inl (λ now state. refl)
 
@@ -115,6 +132,6 @@ pub readable : RepoReads → (now : ℤ) (state : StateView) (c : PlainCommand) 
 unfolding case_of
 readable repos now state (of_repo c) = repos state c
 readable repos now state (of_other c) = other_reads state c
-readable repos now state (of_mirror c) = tt
+readable repos now state (of_mirror c) = mirror_laws.mirror_reads state c
 readable repos now state (of_snapshot c) = snapshot_reads state c
 readable repos now state (of_publish c) = tt

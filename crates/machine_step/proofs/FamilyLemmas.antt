@@ -2,7 +2,7 @@
 use Rattle.std.proofs.Common.{◌≡◌, ℕ, ℤ, List, Option, Some, refl, sym, ap, ◌∙◌}
 use Rattle.command_value.specs.declared.command.Command.{Command}
 use Rattle.command_value.specs.declared.command.Command.TheVariants as commands
-use Rattle.command_words.specs.Plain.{PlainCommand, RepoCommand, SnapshotCommand, OtherCommand, plain, of_mirror, of_repo, of_snapshot, of_publish, of_other, package_search, package_show}
+use Rattle.command_words.specs.Plain.{PlainCommand, MirrorCommand, RepoCommand, SnapshotCommand, OtherCommand, plain, of_mirror, of_repo, of_snapshot, of_publish, of_other, package_search, package_show}
 use Rattle.machine_state.specs.declared.change.ChangeFault.TheVariants as faults
 use Rattle.machine_state.specs.declared.refusal.Refusal.{Refusal}
 use Rattle.machine_state.specs.declared.refusal.Refusal.TheVariants.{PatternTooLarge}
@@ -14,6 +14,7 @@ use Rattle.step_model.specs.declared.reading.Reading.TheVariants as readings
 use Rattle.step_model.specs.Answers.{KeepsBut}
 use Rattle.step_model.specs.Case.{Case, unbuilt}
 use Rattle.repo_packages.specs.PackageCases as repos
+use Rattle.mirror_ops.specs.Cases.{mirror_case}
 use Rattle.local_repo.specs.Cases.{repo_case}
 use Rattle.snapshot_ops.specs.Cases.{snapshot_case}
 use Rattle.machine_step.specs.Answers.{KeepsUnlessTold}
@@ -35,6 +36,13 @@ is_snapshot (of_repo r) e = absurd (cc)
 is_snapshot (of_publish r) e = absurd (cc)
 is_snapshot (of_other r) e = absurd (cc)
 
+pub is_mirror : (c : PlainCommand) → family c ≡ families.Mirror → (r : MirrorCommand) × (c ≡ of_mirror r)
+is_mirror (of_mirror r) e = (r, refl)
+is_mirror (of_repo r) e = absurd (cc)
+is_mirror (of_snapshot r) e = absurd (cc)
+is_mirror (of_publish r) e = absurd (cc)
+is_mirror (of_other r) e = absurd (cc)
+
 pub is_other : (c : PlainCommand) → family c ≡ families.Other → (r : OtherCommand) × (c ≡ of_other r)
 is_other (of_other r) e = (r, refl)
 is_other (of_mirror r) e = absurd (cc)
@@ -50,18 +58,22 @@ pub case_of_snapshot : (now : ℤ) (s : StateView) (c : PlainCommand) (r : Snaps
 unfolding case_of
 case_of_snapshot now s c r e = sym (ap (case_of now s) e)
 
+pub case_of_mirror : (now : ℤ) (s : StateView) (c : PlainCommand) (r : MirrorCommand) → c ≡ of_mirror r → mirror_case s r ≡ case_of now s c
+unfolding case_of
+case_of_mirror now s c r e = sym (ap (case_of now s) e)
+
 pub case_of_other : (now : ℤ) (s : StateView) (c : PlainCommand) (r : OtherCommand) → c ≡ of_other r → other_case s r ≡ case_of now s c
 unfolding case_of
 case_of_other now s c r e = sym (ap (case_of now s) e)
 
 -- the families of which no command is built
-pub case_of_rest : (now : ℤ) (s : StateView) (c : PlainCommand) → (family c ≡ families.Repo → ⊥) → (family c ≡ families.Snapshot → ⊥) → (family c ≡ families.Other → ⊥) → case_of now s c ≡ unbuilt
+pub case_of_rest : (now : ℤ) (s : StateView) (c : PlainCommand) → (family c ≡ families.Repo → ⊥) → (family c ≡ families.Snapshot → ⊥) → (family c ≡ families.Mirror → ⊥) → (family c ≡ families.Other → ⊥) → case_of now s c ≡ unbuilt
 unfolding case_of
-case_of_rest now s (of_mirror c) a b d = refl
-case_of_rest now s (of_repo c) a b d = absurd (a refl)
-case_of_rest now s (of_snapshot c) a b d = absurd (b refl)
-case_of_rest now s (of_publish c) a b d = refl
-case_of_rest now s (of_other c) a b d = absurd (d refl)
+case_of_rest now s (of_repo c) a b m d = absurd (a refl)
+case_of_rest now s (of_snapshot c) a b m d = absurd (b refl)
+case_of_rest now s (of_mirror c) a b m d = absurd (m refl)
+case_of_rest now s (of_publish c) a b m d = refl
+case_of_rest now s (of_other c) a b m d = absurd (d refl)
 
 -- what may arrive for a command of repositories
 pub arrives_repo : (given : Given) (large : Option (List ℕ)) (s : StateView) (reading : Reading) (arrived : Arrived) → MayArrive given large s reading arrived → repos.MayArrive given.inbox s reading arrived

@@ -3,7 +3,7 @@ use Rattle.std.specs.Prelude.{◌≡◌, ℕ, ℤ, List, [], ◌∷◌, Option, 
 use Rattle.ap_host.specs.Disk.{Files}
 use Rattle.package_core.specs.Card.{Card}
 use Rattle.run_model.specs.Run.{Outcome}
-use Rattle.command_words.specs.Plain.{PlainCommand, OtherCommand, of_repo, of_snapshot, of_other, package_search, package_show}
+use Rattle.command_words.specs.Plain.{PlainCommand, OtherCommand, of_mirror, of_repo, of_snapshot, of_other, package_search, package_show}
 use Rattle.machine_state.specs.declared.refusal.Refusal.{Refusal}
 use Rattle.machine_state.specs.declared.arrived.Arrived.{Arrived}
 use Rattle.machine_state.specs.declared.arrived.Arrived.TheVariants as arrivals
@@ -15,6 +15,7 @@ use Rattle.step_model.specs.Refuses.{reading}
 use Rattle.step_model.specs.Steps as steps
 use Rattle.step_model.specs.Queries.{found_by}
 use Rattle.package_intake.specs.Answers.{IsArrival}
+use Rattle.mirror_ops.specs.Cases.{mirror_case}
 use Rattle.local_repo.specs.Cases.{repo_case}
 use Rattle.snapshot_ops.specs.Cases.{snapshot_case}
 use Rattle.reply_text.specs.Refusals.{refusal_line}
@@ -48,6 +49,7 @@ other_case state command = unbuilt
 
 -- what a command is in a state at this moment: that of its family
 unfoldable pub case_of : ℤ → StateView → PlainCommand → Case
+case_of now state (of_mirror command) = mirror_case state command
 case_of now state (of_repo command) = repo_case state command
 case_of now state (of_snapshot command) = snapshot_case state command
 case_of now state (of_other command) = other_case state command

@@ -33,6 +33,7 @@ pub fn need<M: Patterns>(
     match family_of(command) {
         Family::Repo => local_repo::needs(alloc, state, command, patterns),
         Family::Snapshot => snapshot_ops::needs(alloc, state, command, patterns),
+        Family::Mirror => mirror_ops::needs(alloc, state, command, patterns),
         Family::Other => package_needs(alloc, command, patterns),
         _ => Err(ChangeFault::Refused(Refusal::NotBuilt)),
     }

@@ -4,7 +4,7 @@ use Rattle.std.specs.List.{flat_map}
 use Rattle.std.specs.Option.{is_some}
 use Rattle.std.specs.Bool.{if◌then◌else◌}
 use Rattle.std.proofs.lemmas.List.{length-append}
-use Rattle.command_value.specs.Plain.{PlainFollow, follows}
+use Rattle.command_value.specs.Plain.{PlainFollow}
 use Rattle.package_core.specs.Card.{Card}
 use Rattle.machine_state.specs.declared.limit.Kind.TheVariants as kinds
 use Rattle.machine_state.specs.declared.refusal.Refusal.TheVariants.{Unknown}
@@ -13,10 +13,12 @@ use Rattle.machine_state.specs.State.{repo_of}
 use Rattle.machine_state.specs.Values.{StateView}
 use Rattle.reply_text.specs.Words.{line}
 use Rattle.reply_text.specs.Replies as replies
-use Rattle.step_model.specs.Case.{Came, asking_case, or_else, unbuilt}
+use Rattle.step_model.specs.Case.{or_else}
 use Rattle.step_model.specs.Names.{bad_name}
 use Rattle.step_model.proofs.OwnLemmas.{Own, own_else, own_if, own_name}
-use Rattle.repo_packages.specs.PackageCases.{bad_pair, bad_repo, chosen_of, joining, pair_case, unknown}
+use Rattle.package_choice.specs.Choice.{bad_follow}
+use Rattle.package_choice.proofs.ChoiceLemmas.{own_follow}
+use Rattle.repo_packages.specs.PackageCases.{bad_pair, bad_repo, bad_transfer, unknown}
 use Rattle.repo_packages.specs.PackageReplies as own
 
 -- ---- every reply is some bytes
@@ -59,14 +61,5 @@ own_pair state source destination =
     (own_else (bad_name destination) (or_else (unknown state.repos source) (unknown state.repos destination)) (own_name destination)
     (own_else (unknown state.repos source) (unknown state.repos destination) (own_unknown state.repos source) (own_unknown state.repos destination)))
 
--- ---- copies and moves with and without flags of following
-
-pub pair_unbuilt : (state : StateView) (deps : Option Bool) (follow : PlainFollow) (source destination : List ℕ) (queries : List (List ℕ)) (came : Came) → follows deps follow ≡ true
-    → pair_case state deps follow source destination queries came ≡ unbuilt
-pair_unbuilt state deps follow source destination queries came e =
-    ap (λ (b : Bool). if b then unbuilt else asking_case (bad_pair state source destination) queries (joining state destination (chosen_of state source queries) came)) e
-
-pub pair_asking : (state : StateView) (deps : Option Bool) (follow : PlainFollow) (source destination : List ℕ) (queries : List (List ℕ)) (came : Came) → follows deps follow ≡ false
-    → pair_case state deps follow source destination queries came ≡ asking_case (bad_pair state source destination) queries (joining state destination (chosen_of state source queries) came)
-pair_asking state deps follow source destination queries came e =
-    ap (λ (b : Bool). if b then unbuilt else asking_case (bad_pair state source destination) queries (joining state destination (chosen_of state source queries) came)) e
+pub own_transfer : (state : StateView) (follow : PlainFollow) (source destination : List ℕ) → Own (bad_transfer state follow source destination)
+own_transfer state follow source destination = own_else (bad_follow follow) (bad_pair state source destination) (own_follow follow) (own_pair state source destination)

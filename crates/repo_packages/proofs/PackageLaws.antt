@@ -3,7 +3,7 @@ use Rattle.std.proofs.Common.{◌≡◌, ◌≢◌, ◌⊎◌, ℕ, List, [], Op
 use Rattle.std.specs.List.{Contains}
 use Rattle.std.proofs.lemmas.List.Elements.{All-contains_itself}
 use Rattle.ap_host.specs.Disk.{Files}
-use Rattle.command_value.specs.Plain.{PlainFollow, follows}
+use Rattle.command_value.specs.Plain.{PlainFollow}
 use Rattle.package_core.specs.Card.{Card}
 use Rattle.package_list.specs.declared.fault.ListFault.{ListFault}
 use Rattle.package_list.specs.declared.fault.ListFault.TheVariants as list_faults
@@ -19,7 +19,7 @@ use Rattle.machine_state.specs.Values.{StateView}
 use Rattle.machine_state.proofs.ListLemmas.{named_kept, named_union, union_all}
 use Rattle.machine_state.proofs.ValidLemmas.{valid_listed}
 use Rattle.step_model.specs.declared.reading.Reading.TheVariants as readings
-use Rattle.step_model.specs.Case.{Case, Came, asking_case, or_else}
+use Rattle.step_model.specs.Case.{Came, asking_case, or_else}
 use Rattle.step_model.specs.Lawful.{CommandLaw, IfChanges, IfRefuses, IsFrom, IsLawful}
 use Rattle.step_model.specs.Names.{bad_name, bad_folder}
 use Rattle.step_model.proofs.OwnLemmas.{OwnOr, own_asking, own_else, own_folder, own_name}
@@ -28,8 +28,9 @@ use Rattle.package_intake.specs.Answers.{IsArrival}
 use Rattle.package_intake.specs.Arrival.{Arrives, list_of}
 use Rattle.package_intake.specs.Fits.{FitsIn}
 use Rattle.package_intake.proofs.FitLemmas.{own_named}
-use Rattle.repo_packages.specs.PackageCases.{KeepsTo, MayArrive, addition_case, bad_pair, bad_repo, came_or, chosen_of, copy_case, copying, joining, listed, move_case, moving, pair_case, removal, removal_case, taken_in, unknown}
-use Rattle.repo_packages.proofs.OwnLemmas.{added_some, dry_run_some, front_some, own_pair, own_repo, own_unknown, pair_asking, pair_unbuilt, removed_some}
+use Rattle.package_choice.proofs.ChoiceLemmas.{kept_for}
+use Rattle.repo_packages.specs.PackageCases.{KeepsTo, MayArrive, addition_case, bad_repo, bad_transfer, came_or, chosen_for, chosen_of, copy_case, copying, joining, listed, move_case, moving, pair_case, removal, removal_case, taken_in, unknown}
+use Rattle.repo_packages.proofs.OwnLemmas.{added_some, dry_run_some, front_some, own_repo, own_transfer, own_unknown, removed_some}
 use Rattle.repo_packages.proofs.ReadLemmas.{addition_reads, pair_read, removal_reads}
 
 -- ---- what arrives
@@ -123,21 +124,21 @@ own_fault (list_faults.Conflict triple) arrived came = inl tt
 own_fault list_faults.Full arrived came = inl tt
 own_fault list_faults.OutOfMemory arrived came = inl tt
 
-pair_law : (state : StateView) (May : Arrived → Type 0) (source destination : List ℕ) (queries : List (List ℕ)) (came : Came) → Joins state (list_of state destination) (chosen_of state source queries) came
-    → IsLawful state May (asking_case (bad_pair state source destination) queries (joining state destination (chosen_of state source queries) came))
-pair_law state May source destination queries came j = record {
+pair_law : (state : StateView) (May : Arrived → Type 0) (deps : Option Bool) (follow : PlainFollow) (source destination : List ℕ) (queries : List (List ℕ)) (came : Came) → Joins state (list_of state destination) (chosen_for state deps follow source queries) came
+    → IsLawful state May (asking_case (bad_transfer state follow source destination) queries (joining state destination (chosen_for state deps follow source queries) came))
+pair_law state May deps follow source destination queries came j = record {
   valid = λ v early late arrived may. by_valid v answer refl;
   says = λ arrived. by_says answer;
   knows = λ arrived. by_knows arrived answer;
-  early = own_asking (bad_pair state source destination) queries (joining state destination (chosen_of state source queries) came) (own_pair state source destination);
+  early = own_asking (bad_transfer state follow source destination) queries (joining state destination (chosen_for state deps follow source queries) came) (own_transfer state follow source destination);
   late = tt;
   comes = λ arrived may. by_refuses arrived answer;
 }
   where
     answer : Result (Unit {0}) ListFault
-    answer = append_answer (list_of state destination) (chosen_of state source queries)
+    answer = append_answer (list_of state destination) (chosen_for state deps follow source queries)
 
-    by_valid : Valid state → (r : Result (Unit {0}) ListFault) → append_answer (list_of state destination) (chosen_of state source queries) ≡ r → IfChanges (answered r came) (λ reply new. Valid new)
+    by_valid : Valid state → (r : Result (Unit {0}) ListFault) → append_answer (list_of state destination) (chosen_for state deps follow source queries) ≡ r → IfChanges (answered r came) (λ reply new. Valid new)
     by_valid v (Ok u) e = j.valid v e
     by_valid v (Err fault) e = tt
 
@@ -154,46 +155,40 @@ pair_law state May source destination queries came j = record {
     by_refuses arrived (Err fault) = own_fault fault arrived came
 
 -- what is chosen is a list by name
-chosen_named : (state : StateView) (name : List ℕ) (queries : List (List ℕ)) → Valid state → IsNamedList state.known (chosen_of state name queries)
-chosen_named state name queries v = named_kept state.known (list_of state name) _ (own_named state name v)
+chosen_named : (state : StateView) (deps : Option Bool) (follow : PlainFollow) (name : List ℕ) (queries : List (List ℕ)) → Valid state → IsNamedList state.known (chosen_for state deps follow name queries)
+chosen_named state deps follow name queries v =
+    kept_for (IsNamedList state.known) (unwrap_or deps false) follow (list_of state name) queries (λ test. named_kept state.known (list_of state name) test (own_named state name v))
 
-joined_named : (state : StateView) (source destination : List ℕ) (queries : List (List ℕ)) → Valid state → append_answer (list_of state destination) (chosen_of state source queries) ≡ Ok tt
-    → IsNamedList state.known (union (list_of state destination) (chosen_of state source queries))
-joined_named state source destination queries v e =
-    named_union state.known (list_of state destination) (chosen_of state source queries) (own_named state destination v) (chosen_named state source queries v) e
+joined_named : (state : StateView) (deps : Option Bool) (follow : PlainFollow) (source destination : List ℕ) (queries : List (List ℕ)) → Valid state → append_answer (list_of state destination) (chosen_for state deps follow source queries) ≡ Ok tt
+    → IsNamedList state.known (union (list_of state destination) (chosen_for state deps follow source queries))
+joined_named state deps follow source destination queries v e =
+    named_union state.known (list_of state destination) (chosen_for state deps follow source queries) (own_named state destination v) (chosen_named state deps follow source queries v) e
 
-copy_joins : (state : StateView) (source destination : List ℕ) (queries : List (List ℕ)) (dry : Bool) → Joins state (list_of state destination) (chosen_of state source queries) (copying state dry destination (chosen_of state source queries))
-copy_joins state source destination queries true = record { valid = λ v e. v; says = dry_run_some [] _; knows = λ arrived. from_known state arrived; refuses = λ arrived. tt }
-copy_joins state source destination queries false = record {
-  valid = λ v e. valid_listed state destination (union (list_of state destination) (chosen_of state source queries)) (joined_named state source destination queries v e) v;
+copy_joins : (state : StateView) (deps : Option Bool) (follow : PlainFollow) (source destination : List ℕ) (queries : List (List ℕ)) (dry : Bool) → Joins state (list_of state destination) (chosen_for state deps follow source queries) (copying state dry destination (chosen_for state deps follow source queries))
+copy_joins state deps follow source destination queries true = record { valid = λ v e. v; says = dry_run_some [] _; knows = λ arrived. from_known state arrived; refuses = λ arrived. tt }
+copy_joins state deps follow source destination queries false = record {
+  valid = λ v e. valid_listed state destination (union (list_of state destination) (chosen_for state deps follow source queries)) (joined_named state deps follow source destination queries v e) v;
   says = added_some destination _ _;
   knows = λ arrived. from_known state arrived;
   refuses = λ arrived. tt;
 }
 
-move_joins : (state : StateView) (source destination : List ℕ) (queries : List (List ℕ)) (dry : Bool) → Joins state (list_of state destination) (chosen_of state source queries) (moving state dry source destination (chosen_of state source queries))
-move_joins state source destination queries true = record { valid = λ v e. v; says = dry_run_some _ _; knows = λ arrived. from_known state arrived; refuses = λ arrived. tt }
-move_joins state source destination queries false = record {
+move_joins : (state : StateView) (deps : Option Bool) (follow : PlainFollow) (source destination : List ℕ) (queries : List (List ℕ)) (dry : Bool) → Joins state (list_of state destination) (chosen_for state deps follow source queries) (moving state dry source destination (chosen_for state deps follow source queries))
+move_joins state deps follow source destination queries true = record { valid = λ v e. v; says = dry_run_some _ _; knows = λ arrived. from_known state arrived; refuses = λ arrived. tt }
+move_joins state deps follow source destination queries false = record {
   valid = λ v e.
-      valid_listed (listed state destination (union (list_of state destination) (chosen_of state source queries))) source (without (list_of state source) (chosen_of state source queries))
+      valid_listed (listed state destination (union (list_of state destination) (chosen_for state deps follow source queries))) source (without (list_of state source) (chosen_for state deps follow source queries))
       (named_kept state.known (list_of state source) _ (own_named state source v))
-      (valid_listed state destination (union (list_of state destination) (chosen_of state source queries)) (joined_named state source destination queries v e) v);
+      (valid_listed state destination (union (list_of state destination) (chosen_for state deps follow source queries)) (joined_named state deps follow source destination queries v e) v);
   says = front_some _ _ (added_some destination _ _);
   knows = λ arrived. from_known state arrived;
   refuses = λ arrived. tt;
 }
 
--- a copy or a move is lawful in every state, or isn't built in any
 pair_lawful : (deps : Option Bool) (follow : PlainFollow) (source destination : List ℕ) (queries : List (List ℕ)) (coming : StateView → Came)
-    → ((state : StateView) → Joins state (list_of state destination) (chosen_of state source queries) (coming state))
+    → ((state : StateView) → Joins state (list_of state destination) (chosen_for state deps follow source queries) (coming state))
     → CommandLaw (λ state. pair_case state deps follow source destination queries (coming state)) MayArrive
-pair_lawful deps follow source destination queries coming j = by_flags (follows deps follow) refl
-  where
-    by_flags : (b : Bool) → follows deps follow ≡ b → CommandLaw (λ state. pair_case state deps follow source destination queries (coming state)) MayArrive
-    by_flags true e = inl (λ state. pair_unbuilt state deps follow source destination queries (coming state) e)
-    by_flags false e = inr (λ inbox state.
-        subst (λ (c : Case). IsLawful state (λ arrived. MayArrive inbox state c.reads arrived) c) (sym (pair_asking state deps follow source destination queries (coming state) e))
-        (pair_law state (MayArrive inbox state readings.Nothing) source destination queries (coming state) (j state)))
+pair_lawful deps follow source destination queries coming j = inr (λ inbox state. pair_law state (MayArrive inbox state readings.Nothing) deps follow source destination queries (coming state) (j state))
 
 -- ---- all of them, with what they read
 
@@ -207,13 +202,13 @@ remove_law dry name queries = (inr (λ inbox state. asking_law state _ name quer
 pub copy_law : (dry deps : Option Bool) (follow : PlainFollow) (source destination : List ℕ) (queries : List (List ℕ)) → KeepsTo (λ state. copy_case state dry deps follow source destination queries)
 unfolding copy_case
 copy_law dry deps follow source destination queries = (
-  pair_lawful deps follow source destination queries _ (λ state. copy_joins state source destination queries (unwrap_or dry false)),
-  λ state. pair_read state deps follow source destination queries _,
+  pair_lawful deps follow source destination queries _ (λ state. copy_joins state deps follow source destination queries (unwrap_or dry false)),
+  λ state. pair_read state deps follow source destination queries (copying state (unwrap_or dry false) destination (chosen_for state deps follow source queries)),
 )
 
 pub move_law : (dry deps : Option Bool) (follow : PlainFollow) (source destination : List ℕ) (queries : List (List ℕ)) → KeepsTo (λ state. move_case state dry deps follow source destination queries)
 unfolding move_case
 move_law dry deps follow source destination queries = (
-  pair_lawful deps follow source destination queries _ (λ state. move_joins state source destination queries (unwrap_or dry false)),
-  λ state. pair_read state deps follow source destination queries _,
+  pair_lawful deps follow source destination queries _ (λ state. move_joins state deps follow source destination queries (unwrap_or dry false)),
+  λ state. pair_read state deps follow source destination queries (moving state (unwrap_or dry false) source destination (chosen_for state deps follow source queries)),
 )

@@ -1,6 +1,6 @@
 -- What removals, copies and moves come to, by how they go.
-use Rattle.std.proofs.Common.{◌≡◌, ◌≢◌, ℕ, ◌≤◌, ◌++◌, Bool, true, false, cond, List, [], ◌∷◌, length, Option, Some, None, Result, Ok, IsTrue, is_some, inr, refl, sym, ap, ◌∙◌, subst, arith}
-use Rattle.std.specs.List.{list_any}
+use Rattle.std.proofs.Common.{◌≡◌, ◌≢◌, ℕ, ◌≤◌, ◌++◌, Bool, true, false, cond, List, [], ◌∷◌, length, Option, Some, None, Result, Ok, IsTrue, is_some, inr, refl, sym, ap, ◌∙◌, subst, unwrap_or, arith}
+use Rattle.std.specs.List.{filter, list_any}
 use Rattle.std.proofs.lemmas.Bool.{false≢true}
 use Rattle.std.specs.Str.{bytes_eq}
 use Rattle.std.proofs.lemmas.Slice.Eq.{bytes_eq-Decides}
@@ -13,7 +13,7 @@ use Rattle.package_list.specs.Answers.{append_answer}
 use Rattle.package_list.specs.Lists.{has_member, union, without}
 use Rattle.query_grammar.specs.Said.{query_of}
 use Rattle.machine_state.specs.declared.limit.Limit.TheVariants.{Packages}
-use Rattle.command_value.specs.Plain.{PlainFollow, follows}
+use Rattle.command_value.specs.Plain.{PlainFollow}
 use Rattle.machine_state.specs.declared.arrived.Arrived.{Arrived}
 use Rattle.machine_state.specs.declared.change.ChangeFault.{ChangeFault}
 use Rattle.machine_state.specs.declared.refusal.Refusal.{Refusal}
@@ -23,18 +23,18 @@ use Rattle.machine_state.specs.State.{Valid, repo_of}
 use Rattle.machine_state.specs.Values.{StateView}
 use Rattle.machine_state.proofs.StayLemmas.{stays_changed}
 use Rattle.step_model.specs.declared.reading.Reading.TheVariants.{Nothing}
-use Rattle.step_model.specs.Answers.{AreBuilt, ComesTo, FaultIs, IsFirst, IsRefusedFor, IsWanted, QueriesRefuse, Told}
-use Rattle.step_model.specs.Case.{Case, Came, asking_case, bad_queries, changes, refuses}
+use Rattle.step_model.specs.Answers.{AreBuilt, ComesTo, FaultIs, IsRefusedFor, IsWanted, QueriesRefuse, Told}
+use Rattle.step_model.specs.Case.{Case, Came, changes, refuses}
 use Rattle.step_model.specs.Refuses.{Refuses}
 use Rattle.step_model.proofs.AskingLemmas.{asking_comes, asking_wanted, queries_told}
-use Rattle.step_model.proofs.FaultLemmas.{fault_map, first_decides}
+use Rattle.step_model.proofs.FaultLemmas.{fault_map}
 use Rattle.step_model.specs.Queries.{chosen, is_true_of}
 use Rattle.package_intake.specs.Arrival.{list_in, list_of}
-use Rattle.repo_packages.specs.PackageCases.{IsJoinRefusal, added_reply, bad_pair, came_or, chosen_of, copying, joining, listed, moved_reply, moving, pair_case, removal, with_list}
+use Rattle.repo_packages.specs.PackageCases.{IsJoinRefusal, added_reply, bad_transfer, came_or, chosen_for, chosen_of, copying, joining, listed, moved_reply, moving, pair_case, removal, with_list}
 use Rattle.repo_packages.specs.PackageReplies as own
 use Rattle.repo_packages.proofs.JoinLemmas.{all_had, found_holds, found_name}
 use Rattle.package_intake.proofs.LawLemmas.{union_has}
-use Rattle.repo_packages.proofs.OwnLemmas.{pair_asking}
+use Rattle.package_choice.specs.Choice.{chosen_with}
 use Rattle.repo_packages.proofs.ListingLemmas.{listed_list, listed_new, listed_same, without_none, without_some}
 
 no_members : (xs : List Card) → length xs ≡ 0 → xs ≡ []
@@ -148,10 +148,10 @@ module _ (state : StateView) (from to : List ℕ) (source destination : Repo) (t
       made ∙ (λ i. listed (first i) (name_is state from source there i) (left_is state from source there left more f i)) in
       (λ i. changes (sym (lines_are reply all left more e f r) i) (sym second i))
 
-  pub moving_new : (all left more : List Card) (between new : StateView) (queries : List (List ℕ)) → left ≡ without source.list more → more ≡ chosen source.list queries → (length more ≡ 0 → ⊥)
+  pub moving_new : (all left more : List Card) (between new : StateView) (test : Card → Bool) → left ≡ without source.list more → more ≡ filter test source.list → (length more ≡ 0 → ⊥)
       → between ≡ listed state destination.name all → new ≡ listed between source.name left → new ≢ state
-  moving_new all left more between new queries f chose some is made same =
-      without_some source.list more (is_chosen queries) chose (λ none. some (ap length none)) (sym f ∙ sym gone ∙ ap (λ (s : StateView). list_of s from) final ∙ list_is state from source there)
+  moving_new all left more between new test f chose some is made same =
+      without_some source.list more test chose (λ none. some (ap length none)) (sym f ∙ sym gone ∙ ap (λ (s : StateView). list_of s from) final ∙ list_is state from source there)
     where
       final : listed (listed state destination.name all) from left ≡ state
       final = (λ i. listed (sym is i) (sym (name_is state from source there) i) left) ∙ sym made ∙ same
@@ -170,36 +170,26 @@ module _ (state : StateView) (from to : List ℕ) (source destination : Repo) (t
           by_repo (Some repo) e s = listed_list (listed state destination.name all) from left repo e
           by_repo None e s = absurd (false≢true s)
 
--- a copy or a move without a flag of following is refused for its names first
-pub pair_first : (state : StateView) (deps : Option Bool) (follow : PlainFollow) (source destination : List ℕ) (queries : List (List ℕ)) (came : Came) → follows deps follow ≡ false
-    → (fault : ChangeFault) → IsFirst (bad_pair state source destination) fault → IsFirst (pair_case state deps follow source destination queries came).early fault
-pair_first state deps follow source destination queries came plain fault h =
-    subst (λ (c : Case). IsFirst c.early fault) (sym (pair_asking state deps follow source destination queries came plain)) (first_decides (bad_pair state source destination) (bad_queries queries) fault h)
-
--- ---- the case of a copy or a move without a flag of following
-module _ (state : StateView) (deps : Option Bool) (follow : PlainFollow) (source destination : List ℕ) (queries : List (List ℕ)) (came : Came) (plain : follows deps follow ≡ false) (good : bad_pair state source destination ≡ None) where
+-- ---- the case of a copy or a move
+module _ (state : StateView) (deps : Option Bool) (follow : PlainFollow) (source destination : List ℕ) (queries : List (List ℕ)) (came : Came) (good : bad_transfer state follow source destination ≡ None) where
   abbrev the_case : Case
   the_case = pair_case state deps follow source destination queries came
 
   abbrev joins : Came
-  joins = joining state destination (chosen_of state source queries) came
-
-  asks : the_case ≡ asking_case (bad_pair state source destination) queries joins
-  asks = pair_asking state deps follow source destination queries came plain
+  joins = joining state destination (chosen_for state deps follow source queries) came
 
   pub pair_wanted : AreBuilt queries → IsWanted None (pair_case state deps follow source destination queries came) Nothing
-  pair_wanted built = subst (λ (c : Case). IsWanted None c Nothing) (sym asks) (asking_wanted (bad_pair state source destination) queries joins good built)
+  pair_wanted built = asking_wanted (bad_transfer state follow source destination) queries joins good built
 
   pub pair_told : (old new : ℕ) (refused : Option (List ℕ)) (fault : ChangeFault) → FaultIs (λ refusal. Told old new refused (λ large. QueriesRefuse large queries refusal)) fault
       → FaultIs (λ refusal. Told old new refused (λ large. Refuses large (pair_case state deps follow source destination queries came) (Some refusal))) fault
-  pair_told old new refused fault h =
-      subst (λ (c : Case). FaultIs (λ refusal. Told old new refused (λ large. Refuses large c (Some refusal))) fault) (sym asks) (queries_told (bad_pair state source destination) queries joins old new refused fault good h)
+  pair_told old new refused fault h = queries_told (bad_transfer state follow source destination) queries joins old new refused fault good h
 
-  pub pair_comes : (arrived : Arrived) (comes : Came) → AreBuilt queries → joining state destination (chosen_of state source queries) came ≡ comes → ComesTo None (pair_case state deps follow source destination queries came) arrived comes
-  pair_comes arrived comes built is = subst (λ (c : Case). ComesTo None c arrived comes) (sym asks) (asking_comes (bad_pair state source destination) queries joins arrived comes good built is)
+  pub pair_comes : (arrived : Arrived) (comes : Came) → AreBuilt queries → joining state destination (chosen_for state deps follow source queries) came ≡ comes → ComesTo None (pair_case state deps follow source destination queries came) arrived comes
+  pair_comes arrived comes built is = asking_comes (bad_transfer state follow source destination) queries joins arrived comes good built is
 
   -- the packages that can't join are told
-  pub pair_refused : (old new : ℕ) (refused : Option (List ℕ)) (arrived : Arrived) (fault : ChangeFault) (repo : Repo) (more : List Card) → AreBuilt queries → repo_of destination state.repos ≡ Some repo → more ≡ chosen_of state source queries
+  pub pair_refused : (old new : ℕ) (refused : Option (List ℕ)) (arrived : Arrived) (fault : ChangeFault) (repo : Repo) (more : List Card) → AreBuilt queries → repo_of destination state.repos ≡ Some repo → more ≡ chosen_for state deps follow source queries
       → FaultIs (IsJoinRefusal repo.list more) fault → FaultIs (λ refusal. Told old new refused (λ large. IsRefusedFor large (pair_case state deps follow source destination queries came) arrived refusal)) fault
   pair_refused old new refused arrived fault repo more built found chose h =
       fault_map (IsJoinRefusal repo.list more) (λ refusal. Told old new refused (λ large. IsRefusedFor large the_case arrived refusal)) fault
@@ -208,3 +198,7 @@ module _ (state : StateView) (deps : Option Bool) (follow : PlainFollow) (source
 -- what is chosen of the repository that is found
 pub chose_is : (state : StateView) (name : List ℕ) (repo : Repo) (queries : List (List ℕ)) (more : List Card) → repo_of name state.repos ≡ Some repo → more ≡ chosen repo.list queries → more ≡ chosen_of state name queries
 chose_is state name repo queries more found e = e ∙ ap (λ (l : List Card). chosen l queries) (sym (list_is state name repo found))
+
+-- the same with what it needs
+pub chose_for : (state : StateView) (deps : Option Bool) (follow : PlainFollow) (name : List ℕ) (repo : Repo) (queries : List (List ℕ)) (more : List Card) → repo_of name state.repos ≡ Some repo → more ≡ chosen_with (unwrap_or deps false) follow repo.list queries → more ≡ chosen_for state deps follow name queries
+chose_for state deps follow name repo queries more found e = e ∙ ap (λ (l : List Card). chosen_with (unwrap_or deps false) follow l queries) (sym (list_is state name repo found))

@@ -4,15 +4,15 @@ use Rattle.std.specs.Option.{is_some}
 use Rattle.std.specs.Bool.{if◌then◌else◌}
 use Rattle.std.proofs.lemmas.Bool.{leb-true}
 use Rattle.ap_text.specs.Paths.{is_safe_path}
-use Rattle.command_value.specs.Plain.{PlainFollow, follows}
+use Rattle.command_value.specs.Plain.{PlainFollow}
 use Rattle.machine_state.specs.declared.refusal.Refusal.{Refusal}
 use Rattle.machine_state.specs.declared.refusal.Refusal.TheVariants.{BadName}
 use Rattle.machine_state.specs.Values.{StateView}
 use Rattle.step_model.specs.declared.reading.Reading.TheVariants as readings
-use Rattle.step_model.specs.Case.{Came, asking_case, or_else, unbuilt}
+use Rattle.step_model.specs.Case.{Came, or_else}
 use Rattle.step_model.specs.Names.{bad_name, bad_folder}
 use Rattle.step_model.specs.Refuses.{IsReadable, reading}
-use Rattle.repo_packages.specs.PackageCases.{addition_case, bad_pair, chosen_of, joining, pair_case, removal_case, unknown}
+use Rattle.repo_packages.specs.PackageCases.{addition_case, pair_case, removal_case, unknown}
 
 short_path : (path : List ℕ) → bad_folder path ≡ None → length path ≤ 200
 short_path path e = go (is_safe_path path) (nat_le (length path) 200) refl e
@@ -38,13 +38,9 @@ folder_read name folder None last late = by_folder (bad_folder folder) refl
     by_folder (Some refusal) e = tt
     by_folder None e = by_rest (is_some (or_else last late)) (short_path folder e)
 
--- copies and moves read nothing, with flags of following or without
+-- copies and moves read nothing
 pub pair_read : (state : StateView) (deps : Option Bool) (follow : PlainFollow) (source destination : List ℕ) (queries : List (List ℕ)) (came : Came) → IsReadable (reading (pair_case state deps follow source destination queries came))
-pair_read state deps follow source destination queries came = by_flags (follows deps follow)
-  where
-    by_flags : (b : Bool) → IsReadable (reading (if b then unbuilt else asking_case (bad_pair state source destination) queries (joining state destination (chosen_of state source queries) came)))
-    by_flags true = tt
-    by_flags false = nothing_read _
+pair_read state deps follow source destination queries came = nothing_read _
 
 pub addition_reads : (name folder : List ℕ) (state : StateView) → IsReadable (reading (addition_case state name folder))
 unfolding addition_case

@@ -6,7 +6,7 @@ use Rattle.package_core.specs.Card.{Card}
 use Rattle.package_intake.specs.Steps.{or_refused}
 use Rattle.package_list.specs.Answers.{append_answer}
 use Rattle.package_list.specs.Lists.{union, without}
-use Rattle.command_value.specs.Plain.{PlainFollow, follows}
+use Rattle.command_value.specs.Plain.{PlainFollow}
 use Rattle.machine_state.specs.declared.limit.Limit.TheVariants.{Packages}
 use Rattle.machine_state.specs.declared.limit.Kind.TheVariants as kinds
 use Rattle.machine_state.specs.declared.refusal.Refusal.{Refusal}
@@ -20,7 +20,7 @@ use Rattle.machine_state.specs.Values.{StateView}
 use Rattle.reply_text.specs.Replies as replies
 use Rattle.step_model.specs.declared.reading.Reading.{Reading}
 use Rattle.step_model.specs.declared.reading.Reading.TheVariants as readings
-use Rattle.step_model.specs.Case.{Case, Came, changes, refuses, or_else, asking_case, unbuilt}
+use Rattle.step_model.specs.Case.{Case, Came, changes, refuses, or_else, asking_case}
 use Rattle.step_model.specs.Lawful.{CommandLaw}
 use Rattle.step_model.specs.Queries.{chosen}
 use Rattle.step_model.specs.Names.{bad_name, bad_folder}
@@ -28,6 +28,7 @@ use Rattle.step_model.specs.Refuses.{IsReadable, reading}
 use Rattle.package_intake.specs.Answers.{IsArrival}
 use Rattle.package_intake.specs.Arrival.{list_of}
 use Rattle.package_intake.specs.Fits.{added}
+use Rattle.package_choice.specs.Choice.{bad_follow, chosen_with}
 use Rattle.repo_packages.specs.PackageReplies as own
 
 -- ---- repositories by name
@@ -116,11 +117,18 @@ moving state dry source destination more =
 abbrev pub bad_pair : StateView → List ℕ → List ℕ → Option Refusal
 bad_pair state source destination = or_else (bad_name source) (or_else (bad_name destination) (or_else (unknown state.repos source) (unknown state.repos destination)))
 
--- A copy or a move of what these queries choose, which comes to this where it can be joined. What follows dependencies isn't built.
+-- the architectures that are written can be listed, and then so
+abbrev pub bad_transfer : StateView → PlainFollow → List ℕ → List ℕ → Option Refusal
+bad_transfer state follow source destination = or_else (bad_follow follow) (bad_pair state source destination)
+
+-- what is chosen of the repository of that name, with what that needs of it where dependencies are followed
+abbrev pub chosen_for : StateView → Option Bool → PlainFollow → List ℕ → List (List ℕ) → List Card
+chosen_for state deps follow name queries = chosen_with (unwrap_or deps false) follow (list_of state name) queries
+
+-- a copy or a move of what these queries choose, which comes to this where it can be joined
 abbrev pub pair_case : StateView → Option Bool → PlainFollow → List ℕ → List ℕ → List (List ℕ) → Came → Case
 pair_case state deps follow source destination queries came =
-    if follows deps follow then unbuilt
-    else asking_case (bad_pair state source destination) queries (joining state destination (chosen_of state source queries) came)
+    asking_case (bad_transfer state follow source destination) queries (joining state destination (chosen_for state deps follow source queries) came)
 
 -- ---- the commands
 
@@ -143,12 +151,12 @@ removal_case state dry name queries =
 -- what `repo copy` is in a state
 unfoldable pub copy_case : StateView → Option Bool → Option Bool → PlainFollow → List ℕ → List ℕ → List (List ℕ) → Case
 copy_case state dry deps follow source destination queries =
-    pair_case state deps follow source destination queries (copying state (unwrap_or dry false) destination (chosen_of state source queries))
+    pair_case state deps follow source destination queries (copying state (unwrap_or dry false) destination (chosen_for state deps follow source queries))
 
 -- what `repo move` is in a state
 unfoldable pub move_case : StateView → Option Bool → Option Bool → PlainFollow → List ℕ → List ℕ → List (List ℕ) → Case
 move_case state dry deps follow source destination queries =
-    pair_case state deps follow source destination queries (moving state (unwrap_or dry false) source destination (chosen_of state source queries))
+    pair_case state deps follow source destination queries (moving state (unwrap_or dry false) source destination (chosen_for state deps follow source queries))
 
 -- what may arrive where this is read: of an inbox that tells its files what they hold, and of another what fits
 abbrev pub MayArrive : Option Files → StateView → Reading → Arrived → Type 0

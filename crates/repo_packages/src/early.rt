@@ -1,16 +1,17 @@
 //! What each command on packages is refused for before its queries and before anything is read.
-ghost use Rattle.std.specs.Prelude.{◌≡◌, List, ℕ, false, IfOk, IfErr, OnOk, None};
-ghost use Rattle.command_value.specs.Plain.{follows, plain_follow};
+ghost use Rattle.std.specs.Prelude.{◌≡◌, IfOk, IfErr, OnOk, None};
+ghost use Rattle.command_value.specs.Plain.{plain_follow};
 ghost use Rattle.machine_state.specs.State.{Valid};
+ghost use Rattle.package_choice.specs.Choice.{bad_follow};
 ghost use Rattle.step_model.specs.Answers.{IsFirst};
-ghost use Rattle.step_model.specs.Case.{Came};
-ghost use Rattle.repo_packages.specs.PackageCases.{addition_case, bad_pair, pair_case, Finds};
+ghost use Rattle.repo_packages.specs.PackageCases.{addition_case, bad_pair, bad_transfer, Finds};
 
 use crate::checks::there;
 use ap_text::{Name, SafePath};
-use command_value::{Follow, is_following};
+use command_value::Follow;
 use control_stanza::Text;
-use machine_state::{ChangeFault, Refusal, Repo, State};
+use machine_state::{ChangeFault, Repo, State};
+use package_choice::check_follow;
 use std::alloc::Global;
 use step_model::{folder_of, name_of};
 
@@ -52,23 +53,20 @@ fn named_pair<'a>(
     Ok((source, destination))
 }
 
-/// The two repositories of a copy or a move, for which no flag of following may be written yet.
+/// The two repositories of a copy or a move: the architectures that are written can be listed before a name is looked at.
 pub(crate) fn pair_early<'a>(
     alloc: Global,
     state: &'a State,
-    with_deps: &Option<bool>,
     follow: &Follow,
     source: &Text,
     destination: &Text,
 ) -> Result<(&'a Repo, &'a Repo), ChangeFault>
-    ensures plain { OnOk result (follows with_deps.now (plain_follow follow.now) ≡ false) }
-    ensures good { Valid state.now → OnOk result (bad_pair state.now source.now destination.now ≡ None) }
-    ensures fault { (queries : List (List ℕ)) (comes : Came) → Valid state.now → IfErr result (IsFirst (pair_case state.now with_deps.now (plain_follow follow.now) source.now destination.now queries comes).early) }
+    ensures follow { OnOk result (bad_follow (plain_follow follow.now) ≡ None) }
+    ensures good { Valid state.now → OnOk result (bad_transfer state.now (plain_follow follow.now) source.now destination.now ≡ None) }
+    ensures fault { Valid state.now → IfErr result (IsFirst (bad_transfer state.now (plain_follow follow.now) source.now destination.now)) }
     ensures source { Valid state.now → IfOk result (λ pair. Finds state.now source.now pair.0.now) }
     ensures destination { Valid state.now → IfOk result (λ pair. Finds state.now destination.now pair.1.now) }
 {
-    if is_following(with_deps, follow) {
-        return Err(ChangeFault::Refused(Refusal::NotBuilt));
-    }
+    check_follow(alloc, follow)?;
     named_pair(alloc, state, source, destination)
 }

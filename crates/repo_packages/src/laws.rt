@@ -6,7 +6,7 @@ ghost use Rattle.repo_packages.specs.PackageCases.{KeepsTo, addition_case, copy_
 use package_intake::arrivals_fit;
 
 /// What each command on packages keeps to: a valid state goes over into a valid one, each reply has a byte, what is known was known or
-/// arrived, and no refusal is of a pattern. Copies and moves are built in all states or in none. And what is read can be read.
+/// arrived, and no refusal is of a pattern. And what is read can be read.
 pub fn package_cases_are_lawful()
     ensures addition { (name folder : List ℕ) → KeepsTo (λ state. addition_case state name folder) }
     ensures removal { (dry : Option Bool) (name : List ℕ) (queries : List (List ℕ)) → KeepsTo (λ state. removal_case state dry name queries) }

@@ -53,19 +53,18 @@ pub fn removal_needs<M: Patterns>(
 pub fn pair_needs<M: Patterns>(
     alloc: Global,
     state: &State,
-    with_deps: &Option<bool>,
     follow: &Follow,
     source: &Text,
     destination: &Text,
     queries: &[Text],
     patterns: &mut M,
 ) -> Result<Reading, ChangeFault>
-    ensures ok { (comes : Came) → Valid state.now → IfOk result (IsWanted None (pair_case state.now with_deps.now (plain_follow follow.now) source.now destination.now queries.now comes)) }
-    ensures fault { (comes : Came) → Valid state.now → IfErr result (RefusesBy M.Patterns patterns.old patterns.new (pair_case state.now with_deps.now (plain_follow follow.now) source.now destination.now queries.now comes)) }
+    ensures ok { (deps : Option Bool) (comes : Came) → Valid state.now → IfOk result (IsWanted None (pair_case state.now deps (plain_follow follow.now) source.now destination.now queries.now comes)) }
+    ensures fault { (deps : Option Bool) (comes : Came) → Valid state.now → IfErr result (RefusesBy M.Patterns patterns.old patterns.new (pair_case state.now deps (plain_follow follow.now) source.now destination.now queries.now comes)) }
     ensures never_falls { M.refusals patterns.old ≤ M.refusals patterns.new }
     ensures kept { KeepsBy M.Patterns patterns.old patterns.new result }
 {
-    pair_early(alloc, state, with_deps, follow, source, destination)?;
+    pair_early(alloc, state, follow, source, destination)?;
     prepared_all(alloc, queries, patterns)?;
     Ok(Reading::Nothing)
 }

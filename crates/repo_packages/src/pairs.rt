@@ -1,12 +1,12 @@
 //! Packages that are copied or moved from one repository to another.
 ghost use Rattle.std.specs.Prelude.{◌≡◌, ◌≤◌, ◌++◌, List, ℕ, Bool, false, length, Option, IfOk, IfErr, None};
+ghost use Rattle.std.specs.List.{filter};
 ghost use Rattle.command_value.specs.Plain.{plain_follow};
 ghost use Rattle.machine_state.specs.State.{Valid};
 ghost use Rattle.machine_state.specs.declared.arrived.Arrived.{Arrived};
 ghost use Rattle.package_core.specs.Card.{Card};
 ghost use Rattle.package_list.specs.Lists.{union, without};
 ghost use Rattle.step_model.specs.Answers.{came, ChangesTo, FaultIs, IsMemory, IsNew, KeepsBy, RefusedBy};
-ghost use Rattle.step_model.specs.Queries.{chosen};
 ghost use Rattle.repo_packages.specs.PackageCases.{IsJoinRefusal, added_reply, copy_case, copying, joining, move_case, moving, Finds};
 ghost use Rattle.repo_packages.specs.PackageReplies.{dry_run_of, repo_removed as removed_from};
 
@@ -16,11 +16,12 @@ use crate::replies::{both, repo_removed};
 use command_value::Follow;
 use control_stanza::Text;
 use machine_state::{Change, ChangeFault, Repo, State};
+use package_choice::choose;
 use package_list::PackageList;
 use query_eval::Patterns;
 use reply_text::{dry_run_reply, repo_added};
 use std::alloc::{AllocError, Global};
-use step_model::{chosen_in, prepared_all, without_of};
+use step_model::{prepared_all, without_of};
 
 /// What a dry run tells: what would leave the source, and what would come to the destination.
 fn dry_run_change(
@@ -116,7 +117,7 @@ fn carry(
 ) -> Result<Change, ChangeFault>
     ensures comes { (from to : List ℕ) → Valid state.now → Finds state.now from source.now → Finds state.now to destination.now → all ≡ union destination.now.list more.now → IfOk result (λ change. moving state.now false from to more.now ≡ came state.now change) }
     ensures fault { IfErr result IsMemory }
-    ensures new { (from to : List ℕ) (queries : List (List ℕ)) → Valid state.now → Finds state.now from source.now → Finds state.now to destination.now → more.now ≡ chosen source.now.list queries → IfOk result (λ change. IsNew state.now change.state) }
+    ensures new { (from to : List ℕ) (test : Card → Bool) → Valid state.now → Finds state.now from source.now → Finds state.now to destination.now → more.now ≡ filter test source.now.list → IfOk result (λ change. IsNew state.now change.state) }
 {
     let left = without_of(alloc, &source.list, more)?;
     let reply = moved_lines(alloc, source, &left, destination, &all, more)?;
@@ -143,7 +144,7 @@ fn moved(
 ) -> Result<Change, ChangeFault>
     ensures comes { (from to : List ℕ) → Valid state.now → Finds state.now from source.now → Finds state.now to destination.now → IfOk result (λ change. joining state.now to more.now (moving state.now dry_run from to more.now) ≡ came state.now change) }
     ensures fault { IfErr result (FaultIs (IsJoinRefusal destination.now.list more.now)) }
-    ensures new { (from to : List ℕ) (queries : List (List ℕ)) → Valid state.now → Finds state.now from source.now → Finds state.now to destination.now → more.now ≡ chosen source.now.list queries → IfOk result (λ change. IsNew state.now change.state) }
+    ensures new { (from to : List ℕ) (test : Card → Bool) → Valid state.now → Finds state.now from source.now → Finds state.now to destination.now → more.now ≡ filter test source.now.list → IfOk result (λ change. IsNew state.now change.state) }
 {
     let all = appended(alloc, &destination.list, more)?;
     if dry_run {
@@ -155,7 +156,7 @@ fn moved(
 /// What `repo copy` changes in a valid state: the packages of the source of which some query is true join the destination. Of two equal ones
 /// the destination's stays. It is refused as `Conflict` where one of them and another package of the destination have one name, version and
 /// architecture, and then as `Limit(Packages)` where they are too many. A dry run makes the same checks, tells which would come, and
-/// changes nothing. What follows dependencies isn't built yet.
+/// changes nothing. Where `-with-deps` is set they join with what they depend on of the source.
 pub fn copy_packages<M: Patterns>(
     alloc: Global,
     state: &State,
@@ -173,15 +174,15 @@ pub fn copy_packages<M: Patterns>(
     ensures never_falls { M.refusals patterns.old ≤ M.refusals patterns.new }
     ensures kept { KeepsBy M.Patterns patterns.old patterns.new result }
 {
-    let (from, to) = pair_early(alloc, state, with_deps, follow, source, destination)?;
+    let (from, to) = pair_early(alloc, state, follow, source, destination)?;
     let asked = prepared_all(alloc, queries, patterns)?;
-    let more = chosen_in(alloc, &from.list, &asked)?;
+    let more = choose(alloc, &from.list, &asked, with_deps, follow)?;
     copied(alloc, state, dry_run.unwrap_or(false), to, &more)
 }
 
 /// What `repo move` changes in a valid state: the packages of the source of which some query is true join the destination, as `copy_packages`
-/// has it, and leave the source. A dry run makes the same checks, tells which would leave and which would come, and changes nothing. What
-/// follows dependencies isn't built yet.
+/// has it, and leave the source. A dry run makes the same checks, tells which would leave and which would come, and changes nothing. Where
+/// `-with-deps` is set what they depend on of the source moves with them.
 pub fn move_packages<M: Patterns>(
     alloc: Global,
     state: &State,
@@ -199,8 +200,8 @@ pub fn move_packages<M: Patterns>(
     ensures never_falls { M.refusals patterns.old ≤ M.refusals patterns.new }
     ensures kept { KeepsBy M.Patterns patterns.old patterns.new result }
 {
-    let (from, to) = pair_early(alloc, state, with_deps, follow, source, destination)?;
+    let (from, to) = pair_early(alloc, state, follow, source, destination)?;
     let asked = prepared_all(alloc, queries, patterns)?;
-    let more = chosen_in(alloc, &from.list, &asked)?;
+    let more = choose(alloc, &from.list, &asked, with_deps, follow)?;
     moved(alloc, state, dry_run.unwrap_or(false), from, to, &more)
 }

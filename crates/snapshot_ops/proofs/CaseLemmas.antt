@@ -1,39 +1,38 @@
 -- What the commands of snapshots come to, by how it goes.
-use Rattle.std.proofs.Common.{◌≡◌, ℕ, List, Option, Some, None, Bool, true, false, inr, sym, subst, refl, ap, ◌∙◌}
-use Rattle.std.specs.Option.{is_some}
+use Rattle.std.proofs.Common.{◌≡◌, ℕ, List, Option, Some, None, Bool, inr, sym, subst, refl, ap, ◌∙◌}
 use Rattle.std.specs.Global.{Vec}
-use Rattle.std.specs.Bool.{if◌then◌else◌}
 use Rattle.command_value.specs.declared.command.Command.{Command}
 use Rattle.command_value.specs.declared.command.Command.TheVariants as commands
 use Rattle.command_value.specs.declared.command.Follow.{Follow}
 use Rattle.command_value.specs.declared.command.Origin.{Origin}
 use Rattle.command_value.specs.declared.command.Origin.TheVariants as origins
-use Rattle.command_value.specs.Plain.{PlainCommand, PlainFollow, SnapshotCommand, follows, plain, of_snapshot, snapshot_create, snapshot_list, snapshot_show, snapshot_filter, snapshot_merge, snapshot_pull, snapshot_search, snapshot_rename, snapshot_drop}
+use Rattle.command_value.specs.Plain.{PlainCommand, PlainFollow, SnapshotCommand, plain, of_snapshot, snapshot_create, snapshot_list, snapshot_show, snapshot_filter, snapshot_merge, snapshot_search, snapshot_rename, snapshot_drop}
 use Rattle.machine_state.specs.declared.limit.Kind.TheVariants as kinds
 use Rattle.machine_state.specs.declared.change.ChangeFault.{ChangeFault}
 use Rattle.machine_state.specs.declared.refusal.Refusal.{Refusal}
-use Rattle.machine_state.specs.declared.refusal.Refusal.TheVariants.{Exists, Unknown, NotBuilt}
+use Rattle.machine_state.specs.declared.refusal.Refusal.TheVariants.{NotBuilt}
 use Rattle.machine_state.specs.declared.arrived.Arrived.{Arrived}
 use Rattle.machine_state.specs.declared.repo.Repo.{Repo}
-use Rattle.machine_state.specs.declared.snapshot.Snapshot.{Snapshot}
 use Rattle.machine_state.specs.Sources.{in_use}
-use Rattle.machine_state.specs.State.{snapshot_of}
 use Rattle.machine_state.specs.Values.{PublicationView, StateView}
 use Rattle.reply_text.specs.Snapshots as replies
 use Rattle.step_model.specs.declared.reading.Reading.TheVariants as readings
-use Rattle.step_model.specs.Case.{Case, Came, asking_case, changes, refuses, or_else, plain_case, unbuilt}
-use Rattle.step_model.specs.Answers.{AreBuilt, ComesTo, FaultIs, IsFirst, IsRefusedFor, IsWanted, Told}
-use Rattle.step_model.proofs.AskingLemmas.{asking_comes}
+use Rattle.step_model.specs.Case.{Case, Came, changes, refuses, or_else, plain_case, unbuilt}
+use Rattle.step_model.specs.Answers.{ComesTo, FaultIs, IsFirst, IsRefusedFor, IsWanted}
 use Rattle.step_model.proofs.FaultLemmas.{fault_map}
 use Rattle.step_model.proofs.RefusalLemmas.{passes, reads_on}
 pub use Rattle.step_model.proofs.OwnLemmas.{first_none, second_none}
 pub use Rattle.snapshot_pull.proofs.CaseLemmas.{asking_told, is_free, is_there, taken_along, unknown_along}
-use Rattle.snapshot_ops.specs.Cases.{copy_case, empty_case, snapshot_case, unknown_repo, without_following}
+use Rattle.snapshot_ops.specs.Cases.{copy_case, empty_case, fetched_case, never_updated, snapshot_case, unknown_mirror, unknown_repo}
 
 -- ---- names
 
 pub repo_along : (repos : List Repo) (n m : List ℕ) (fault : ChangeFault) → n ≡ m → IsFirst (unknown_repo repos n) fault → IsFirst (unknown_repo repos m) fault
 repo_along repos n m fault f h = subst (λ (k : List ℕ). IsFirst (unknown_repo repos k) fault) f h
+
+-- what a mirror fetched, of a name that is seen otherwise
+pub fetched_along : (state : StateView) (n m : List ℕ) (fault : ChangeFault) → n ≡ m → IsFirst (or_else (unknown_mirror state.mirrors n) (never_updated state n)) fault → IsFirst (or_else (unknown_mirror state.mirrors m) (never_updated state m)) fault
+fetched_along state n m fault f h = subst (λ (k : List ℕ). IsFirst (or_else (unknown_mirror state.mirrors k) (never_updated state k)) fault) f h
 
 pub used_along : (publications : List PublicationView) (n m : List ℕ) (fault : ChangeFault) → n ≡ m → IsFirst (in_use kinds.Snapshot n publications) fault → IsFirst (in_use kinds.Snapshot m publications) fault
 used_along publications n m fault f h = subst (λ (k : List ℕ). IsFirst (in_use kinds.Snapshot k publications) fault) f h
@@ -52,14 +51,6 @@ module _ (early : Option Refusal) (came : Came) (good : early ≡ None) where
   -- nothing is wanted for it
   pub plain_wanted : IsWanted None (plain_case early came) readings.Nothing
   plain_wanted = (passes None (plain_case early came) good refl refl, sym (reads_on (plain_case early came) good refl))
-
--- ---- commands that may follow dependencies
-
-pub follows_unbuilt : (deps : Option Bool) (follow : PlainFollow) (case : Case) → follows deps follow ≡ true → without_following deps follow case ≡ unbuilt
-follows_unbuilt deps follow case e = ap (λ (b : Bool). if b then unbuilt else case) e
-
-pub follows_not : (deps : Option Bool) (follow : PlainFollow) (case : Case) → follows deps follow ≡ false → without_following deps follow case ≡ case
-follows_not deps follow case e = ap (λ (b : Bool). if b then unbuilt else case) e
 
 -- ---- which command it is
 
@@ -141,9 +132,13 @@ pub create_copies : (state : StateView) (name : List ℕ) (origin : Origin) (rep
 unfolding snapshot_case
 create_copies state name origin repo e = ap (λ (o : Origin). snapshot_case state (snapshot_create name o)) e
 
-pub create_unbuilt : (state : StateView) (name : List ℕ) (origin : Origin) (mirror : List ℕ) → origin ≡ origins.Mirror mirror → (snapshot_case state (snapshot_create name origin)).early ≡ Some NotBuilt
+pub create_fetches : (state : StateView) (name : List ℕ) (origin : Origin) (mirror : List ℕ) → origin ≡ origins.Mirror mirror → snapshot_case state (snapshot_create name origin) ≡ fetched_case state name mirror
 unfolding snapshot_case
-create_unbuilt state name origin mirror e = ap (λ (o : Origin). (snapshot_case state (snapshot_create name o)).early) e
+create_fetches state name origin mirror e = ap (λ (o : Origin). snapshot_case state (snapshot_create name o)) e
+
+-- two checks that find nothing
+pub both_none : (a b : Option Refusal) → a ≡ None → b ≡ None → or_else a b ≡ None
+both_none a b e f = (λ i. or_else (e i) (f i))
 
 -- four checks that find nothing
 pub all_none : (a b c d : Option Refusal) → a ≡ None → b ≡ None → c ≡ None → d ≡ None → or_else a (or_else b (or_else c d)) ≡ None

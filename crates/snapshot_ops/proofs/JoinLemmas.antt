@@ -1,9 +1,8 @@
 -- Lists by name that are merged are one.
-use Rattle.std.proofs.Common.{◌≡◌, ◌≤◌, Bool, true, false, not, cond, ◌&&◌, ◌||◌, List, [], ◌∷◌, length, Result, Ok, Err, refl, sym, ap, ◌∙◌, subst, nat_lt, ltb-false, true≢false, Ordering, Less, Equal, Greater}
+use Rattle.std.proofs.Common.{◌≡◌, Bool, true, false, not, ◌&&◌, List, [], ◌∷◌, Result, Ok, Err, refl, sym, ap, ◌∙◌, subst, true≢false, Ordering, Less, Equal, Greater}
 use Rattle.std.specs.Ordering.{is_eq, is_lt, ordering_reverse}
-use Rattle.std.specs.Str.{bytes_eq}
-use Rattle.std.specs.List.{AllByRecursion, filter, list_any}
-use Rattle.std.proofs.lemmas.List.Elements.{All-filter, All-from_recursion, recursion_from_All}
+use Rattle.std.specs.List.{AllByRecursion}
+use Rattle.std.proofs.lemmas.List.Elements.{All-filter}
 use Rattle.package_core.specs.Card.{Card}
 use Rattle.package_core.specs.Order.{package_cmp, same_triple}
 use Rattle.package_core.proofs.OrderLaws.{package_total}
@@ -11,16 +10,14 @@ use Rattle.package_list.specs.declared.list.TheConstants.{MOST_MEMBERS}
 use Rattle.package_list.specs.declared.fault.ListFault.{ListFault}
 use Rattle.package_list.specs.declared.fault.ListFault.TheVariants as faults
 use Rattle.package_list.specs.Answers.{size_answer}
-use Rattle.package_list.specs.Lists.{clash, clashes, greatest, has_clash, has_greater, has_key, latest, merged, same_key, union}
-use Rattle.package_list.proofs.Keys.{key_total, same_key-is}
-use Rattle.package_list.specs.Order.{key_cmp}
+use Rattle.package_list.specs.Lists.{clash, clashes, greatest, has_clash, has_greater, latest, same_key, union}
 use Rattle.package_list.proofs.SortedLemmas.{union_ascending}
 use Rattle.package_list.proofs.Unions.{filter_ascending}
 use Rattle.machine_state.specs.declared.limit.Limit.TheVariants.{Packages}
 use Rattle.machine_state.specs.declared.refusal.Refusal.{Refusal}
 use Rattle.machine_state.specs.declared.refusal.Refusal.TheVariants.{Conflict, Limit}
 use Rattle.machine_state.specs.Lists.{IsKnown, IsNamedList}
-use Rattle.machine_state.proofs.ListLemmas.{named_kept, named_union, union_all}
+use Rattle.machine_state.proofs.ListLemmas.{named_union, union_all}
 use Rattle.snapshot_pull.proofs.JoinLemmas.{apart_keys, each_kept, each_passed, each_so, each_turned, each_with, few_of, key_turned, named_merged, none_any, none_of}
 use Rattle.snapshot_ops.specs.Merges.{join_answer, joined_so, merge_behind, or_refused, where_joined}
 use Rattle.snapshot_ops.specs.declared.way.Way.{Way}

@@ -1,33 +1,34 @@
 -- Laws of the cases of snapshots.
-use Rattle.std.proofs.Common.{◌≡◌, ◌≢◌, ℕ, List, [], ◌∷◌, map, ap, Option, Some, None, Bool, true, false, unwrap_or, refl, sym, subst, inl, inr}
+use Rattle.std.proofs.Common.{◌≢◌, ℕ, List, [], ◌∷◌, map, ap, Option, Some, None, Bool, true, false, unwrap_or, refl, inl, inr}
 use Rattle.std.specs.Bool.{if◌then◌else◌}
 use Rattle.command_value.specs.declared.command.Origin.TheVariants as origins
-use Rattle.command_value.specs.Plain.{PlainFollow, SnapshotCommand, follows, snapshot_create, snapshot_list, snapshot_show, snapshot_filter, snapshot_merge, snapshot_pull, snapshot_search, snapshot_rename, snapshot_drop}
+use Rattle.command_value.specs.Plain.{PlainFollow, SnapshotCommand, snapshot_create, snapshot_list, snapshot_show, snapshot_filter, snapshot_merge, snapshot_pull, snapshot_search, snapshot_rename, snapshot_drop}
 use Rattle.package_core.specs.Card.{Card}
 use Rattle.machine_state.specs.declared.limit.Kind.TheVariants as kinds
 use Rattle.machine_state.specs.declared.snapshot.Snapshot.{Snapshot}
 use Rattle.machine_state.specs.declared.arrived.Arrived.{Arrived}
 use Rattle.machine_state.specs.Sources.{in_use, source_renamed}
-use Rattle.machine_state.specs.State.{snapshot_of}
+use Rattle.machine_state.specs.Lists.{IsNamedList}
+use Rattle.machine_state.specs.State.{Valid, snapshot_of}
 use Rattle.machine_state.specs.Values.{StateView}
 use Rattle.machine_state.proofs.ListLemmas.{named_kept, named_none}
-use Rattle.query_grammar.specs.Said.{query_of}
+use Rattle.package_choice.specs.Choice.{bad_follow}
+use Rattle.package_choice.proofs.ChoiceLemmas.{kept_for, own_follow}
 use Rattle.reply_text.specs.Replies.{package_search, packages_line}
 use Rattle.reply_text.specs.Snapshots as replies
 use Rattle.step_model.specs.declared.reading.Reading.TheVariants as readings
-use Rattle.step_model.specs.Case.{Case, changes, plain_case, unbuilt}
+use Rattle.step_model.specs.Case.{changes, plain_case}
 use Rattle.step_model.specs.Names.{bad_name}
 use Rattle.step_model.specs.Lawful.{CommandLaw, IsLawful}
-use Rattle.step_model.specs.Queries.{found_by}
 use Rattle.step_model.specs.Refuses.{IsReadable, reading}
-use Rattle.snapshot_ops.specs.Cases.{MayArrive, bad_among, bad_copy, bad_drop, bad_empty, bad_filter, bad_merge, bad_rename, bad_snapshot, copy_case, drop_case, empty_case, filter_case, list_of, merge_case, rename_case, repo_list_of, search_case, show_case, shown, snapshot_case, snapshot_renamed_in, taken, unknown, unknown_among, unknown_repo, without_following, without_snapshot}
+use Rattle.snapshot_ops.specs.Cases.{MayArrive, bad_among, bad_copy, bad_drop, bad_empty, bad_fetched, bad_filter, bad_merge, bad_pair, bad_rename, bad_search, bad_snapshot, chosen_for, copy_case, drop_case, empty_case, fetched_case, fetched_list_of, filter_case, list_of, merge_case, never_updated, rename_case, repo_list_of, search_case, show_case, shown, snapshot_case, snapshot_renamed_in, taken, unknown, unknown_among, unknown_mirror, unknown_repo, without_snapshot}
 use Rattle.snapshot_pull.specs.Pulls.{flags_of}
 use Rattle.snapshot_pull.proofs.LawfulLemmas.{pull_lawful, pull_reads}
 use Rattle.snapshot_ops.specs.Merges.{merge_of, way_of}
 use Rattle.snapshot_ops.specs.Replies as own
-use Rattle.snapshot_ops.proofs.CaseLemmas.{first_none, follows_not, follows_unbuilt, second_none}
+use Rattle.snapshot_ops.proofs.CaseLemmas.{first_none, second_none}
 use Rattle.snapshot_ops.proofs.JoinLemmas.{named_behind}
-use Rattle.snapshot_ops.proofs.LawLemmas.{Keeps, asking_law, changing, created_keeps, front_some, line_some, list_named, lists_named, made_keeps, merge_own, name_is, own_bad, own_else, own_missing, own_name, own_repo, own_snapshot, own_taken, own_unknown, own_used, plain_law, repo_list_named, telling}
+use Rattle.snapshot_ops.proofs.LawLemmas.{Keeps, Own, asking_law, changing, created_keeps, fetched_list_named, front_some, line_some, list_named, lists_named, made_keeps, merge_own, name_is, own_bad, own_else, own_mirror, own_missing, own_name, own_repo, own_snapshot, own_taken, own_unknown, own_updated, own_used, plain_law, repo_list_named, telling}
 use Rattle.snapshot_ops.proofs.StateLemmas.{valid_dropped, valid_renamed}
 
 module _ (state : StateView) (May : Arrived → Type 0) where
@@ -46,12 +47,29 @@ module _ (state : StateView) (May : Arrived → Type 0) where
       (own_else (bad_name name) _ (own_name name) (own_else (bad_name repo) _ (own_name repo) (own_else (taken state.snapshots name) (unknown_repo state.repos repo) (own_taken state.snapshots name) (own_repo state.repos repo))))
       (repo_list_of state repo) (λ v e. repo_list_named state repo v))
 
-  filter_law : (source destination : List ℕ) (queries : List (List ℕ)) → IsLawful state May (filter_case state source destination queries)
-  filter_law source destination queries =
-      asking_law state May (bad_filter state source destination) queries _
-      (created_keeps state (bad_filter state source destination) destination (λ e. name_is destination (first_none (bad_name destination) _ (second_none (bad_name source) _ e)))
-      (own_else (bad_name source) _ (own_name source) (own_else (bad_name destination) _ (own_name destination) (own_else (taken state.snapshots destination) (unknown state.snapshots source) (own_taken state.snapshots destination) (own_unknown state.snapshots source))))
-      _ (λ v e. named_kept state.known (list_of state source) _ (list_named state source v)))
+  fetched_law : (name mirror : List ℕ) → IsLawful state May (fetched_case state name mirror)
+  fetched_law name mirror =
+      plain_law state May (bad_fetched state name mirror) _
+      (created_keeps state (bad_fetched state name mirror) name (λ e. name_is name (first_none (bad_name name) _ e))
+      (own_else (bad_name name) _ (own_name name) (own_else (bad_name mirror) _ (own_name mirror) (own_else (taken state.snapshots name) _ (own_taken state.snapshots name)
+      (own_else (unknown_mirror state.mirrors mirror) (never_updated state mirror) (own_mirror state.mirrors mirror) (own_updated state mirror)))))
+      (fetched_list_of state mirror) (λ v e. fetched_list_named state mirror v))
+
+  -- what is chosen is a list by name
+  chosen_named : (deps : Option Bool) (follow : PlainFollow) (name : List ℕ) (queries : List (List ℕ)) → Valid state → IsNamedList state.known (chosen_for state deps follow name queries)
+  chosen_named deps follow name queries v =
+      kept_for (IsNamedList state.known) (unwrap_or deps false) follow (list_of state name) queries (λ test. named_kept state.known (list_of state name) test (list_named state name v))
+
+  own_pair : (source destination : List ℕ) → Own (bad_pair state source destination)
+  own_pair source destination =
+      own_else (bad_name source) _ (own_name source) (own_else (bad_name destination) _ (own_name destination) (own_else (taken state.snapshots destination) (unknown state.snapshots source) (own_taken state.snapshots destination) (own_unknown state.snapshots source)))
+
+  filter_law : (deps : Option Bool) (follow : PlainFollow) (source destination : List ℕ) (queries : List (List ℕ)) → IsLawful state May (filter_case state deps follow source destination queries)
+  filter_law deps follow source destination queries =
+      asking_law state May (bad_filter state follow source destination) queries _
+      (created_keeps state (bad_filter state follow source destination) destination (λ e. name_is destination (first_none (bad_name destination) _ (second_none (bad_name source) _ (second_none (bad_follow follow) _ e))))
+      (own_else (bad_follow follow) (bad_pair state source destination) (own_follow follow) (own_pair source destination))
+      (chosen_for state deps follow source queries) (λ v e. chosen_named deps follow source queries v))
 
   merge_law : (newest no_remove : Bool) (destination : List ℕ) (sources : List (List ℕ)) → IsLawful state May (merge_case state newest no_remove destination sources)
   merge_law newest no_remove destination sources =
@@ -90,8 +108,10 @@ module _ (state : StateView) (May : Arrived → Type 0) where
   unfolding package_search
   searched_some list = front_some _ _ (count_some _)
 
-  search_law : (name query : List ℕ) → IsLawful state May (search_case state name query)
-  search_law name query = asking_law state May (bad_snapshot state name) (query ∷ []) _ (telling state (bad_snapshot state name) _ (searched_some (found_by (list_of state name) (query_of query))) (own_snapshot state name))
+  search_law : (deps : Option Bool) (follow : PlainFollow) (name query : List ℕ) → IsLawful state May (search_case state deps follow name query)
+  search_law deps follow name query =
+      asking_law state May (bad_search state follow name) (query ∷ []) _
+      (telling state (bad_search state follow name) _ (searched_some (chosen_for state deps follow name (query ∷ []))) (own_else (bad_follow follow) (bad_snapshot state name) (own_follow follow) (own_snapshot state name)))
 
   -- ---- names
 
@@ -121,29 +141,19 @@ module _ (state : StateView) (May : Arrived → Type 0) where
 
 -- ---- all of them
 
--- a command that may follow dependencies is lawful in every state, or isn't built in any
-following_law : (deps : Option Bool) (follow : PlainFollow) (case : StateView → Case)
-    → ((state : StateView) (May : Arrived → Type 0) → IsLawful state May (case state)) → CommandLaw (λ state. without_following deps follow (case state)) MayArrive
-following_law deps follow case law = by_flags (follows deps follow) refl
-  where
-    by_flags : (b : Bool) → follows deps follow ≡ b → CommandLaw (λ state. without_following deps follow (case state)) MayArrive
-    by_flags true e = inl (λ state. follows_unbuilt deps follow (case state) e)
-    by_flags false e = inr (λ inbox state.
-        subst (λ (c : Case). IsLawful state (λ arrived. MayArrive inbox state c.reads arrived) c) (sym (follows_not deps follow (case state) e)) (law state (λ arrived. MayArrive inbox state (case state).reads arrived)))
-
 pub lawful : (c : SnapshotCommand) → CommandLaw (λ state. snapshot_case state c) MayArrive
 unfolding snapshot_case
 lawful (snapshot_create name origins.Empty) = inr (λ inbox state. empty_law state _ name)
 lawful (snapshot_create name (origins.Repo repo)) = inr (λ inbox state. copy_law state _ name repo)
+lawful (snapshot_create name (origins.Mirror mirror)) = inr (λ inbox state. fetched_law state _ name mirror)
 lawful snapshot_list = inr (λ inbox state. list_law state _)
 lawful (snapshot_show packages name) = inr (λ inbox state. show_law state _ (unwrap_or packages false) name)
-lawful (snapshot_filter deps follow source destination queries) = following_law deps follow (λ state. filter_case state source destination queries) (λ state May. filter_law state May source destination queries)
+lawful (snapshot_filter deps follow source destination queries) = inr (λ inbox state. filter_law state _ deps follow source destination queries)
 lawful (snapshot_merge newest no_remove destination sources) = inr (λ inbox state. merge_law state _ (unwrap_or newest false) (unwrap_or no_remove false) destination sources)
 lawful (snapshot_pull all dry no_deps no_remove follow name source destination queries) = pull_lawful dry (flags_of all no_deps no_remove follow) follow name source destination queries
-lawful (snapshot_search deps follow name query) = following_law deps follow (λ state. search_case state name query) (λ state May. search_law state May name query)
+lawful (snapshot_search deps follow name query) = inr (λ inbox state. search_law state _ deps follow name query)
 lawful (snapshot_rename before after) = inr (λ inbox state. rename_law state _ before after)
 lawful (snapshot_drop name) = inr (λ inbox state. drop_law state _ name)
-lawful c = inl (λ state. refl)
 
 -- ---- what is read
 
@@ -151,23 +161,16 @@ nothing_read : (b : Bool) → IsReadable (if b then readings.Nothing else readin
 nothing_read true = tt
 nothing_read false = tt
 
-following_read : (deps : Option Bool) (follow : PlainFollow) (case : Case) → IsReadable (reading case) → IsReadable (reading (without_following deps follow case))
-following_read deps follow case h = by_flags (follows deps follow)
-  where
-    by_flags : (b : Bool) → IsReadable (reading (if b then unbuilt else case))
-    by_flags true = tt
-    by_flags false = h
-
 pub snapshot_reads : (state : StateView) (c : SnapshotCommand) → IsReadable (reading (snapshot_case state c))
 unfolding snapshot_case
 snapshot_reads state (snapshot_create name origins.Empty) = nothing_read _
 snapshot_reads state (snapshot_create name (origins.Repo repo)) = nothing_read _
+snapshot_reads state (snapshot_create name (origins.Mirror mirror)) = nothing_read _
 snapshot_reads state snapshot_list = tt
 snapshot_reads state (snapshot_show packages name) = nothing_read _
-snapshot_reads state (snapshot_filter deps follow source destination queries) = following_read deps follow _ (nothing_read _)
+snapshot_reads state (snapshot_filter deps follow source destination queries) = nothing_read _
 snapshot_reads state (snapshot_merge newest no_remove destination sources) = nothing_read _
 snapshot_reads state (snapshot_pull all dry no_deps no_remove follow name source destination queries) = pull_reads state dry (flags_of all no_deps no_remove follow) follow name source destination queries
-snapshot_reads state (snapshot_search deps follow name query) = following_read deps follow _ (nothing_read _)
+snapshot_reads state (snapshot_search deps follow name query) = nothing_read _
 snapshot_reads state (snapshot_rename before after) = nothing_read _
 snapshot_reads state (snapshot_drop name) = nothing_read _
-snapshot_reads state c = tt

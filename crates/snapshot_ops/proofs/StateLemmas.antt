@@ -4,7 +4,6 @@ use Rattle.std.specs.Str.{bytes_eq}
 use Rattle.std.proofs.lemmas.Slice.Eq.{bytes_eq-Decides}
 use Rattle.ap_text.specs.Names.{is_name}
 use Rattle.machine_state.specs.declared.limit.Kind.TheVariants as kinds
-use Rattle.machine_state.specs.declared.snapshot.Snapshot.{Snapshot}
 use Rattle.machine_state.specs.Mirrors.{IsSnapshot, SnapshotLists}
 use Rattle.machine_state.specs.Sources.{in_use}
 use Rattle.machine_state.specs.State.{Valid, has_source, snapshot_name}

@@ -3,21 +3,21 @@ use Rattle.std.specs.Prelude.{ℕ, Bool, false, List, [], ◌∷◌, length, map
 use Rattle.std.specs.Option.{is_some}
 use Rattle.package_core.specs.Card.{Card}
 use Rattle.command_value.specs.declared.command.Origin.TheVariants as origins
-use Rattle.command_value.specs.Plain.{SnapshotCommand, PlainFollow, follows, snapshot_create, snapshot_list, snapshot_show, snapshot_filter, snapshot_merge, snapshot_pull, snapshot_search, snapshot_rename, snapshot_drop}
+use Rattle.command_value.specs.Plain.{PlainFollow, SnapshotCommand, snapshot_create, snapshot_drop, snapshot_filter, snapshot_list, snapshot_merge, snapshot_pull, snapshot_rename, snapshot_search, snapshot_show}
+use Rattle.machine_state.specs.declared.fetched.Fetched.{Fetched}
 use Rattle.machine_state.specs.declared.limit.Kind.TheVariants as kinds
 use Rattle.machine_state.specs.declared.refusal.Refusal.{Refusal}
-use Rattle.machine_state.specs.declared.refusal.Refusal.TheVariants.{Unknown}
+use Rattle.machine_state.specs.declared.refusal.Refusal.TheVariants.{NotUpdated, Unknown}
 use Rattle.machine_state.specs.declared.repo.Repo.{Repo}
 use Rattle.machine_state.specs.declared.snapshot.Snapshot.{Snapshot}
 use Rattle.machine_state.specs.Named.{dropped, renamed}
 use Rattle.machine_state.specs.Sources.{in_use, source_renamed}
-use Rattle.machine_state.specs.State.{repo_of, snapshot_name, snapshot_of}
-use Rattle.machine_state.specs.Values.{StateView}
-use Rattle.query_grammar.specs.Said.{query_of}
+use Rattle.machine_state.specs.State.{mirror_of, repo_of, snapshot_name, snapshot_of}
+use Rattle.machine_state.specs.Values.{MirrorView, StateView}
+use Rattle.package_choice.specs.Choice.{bad_follow, chosen_with}
 use Rattle.reply_text.specs.Replies.{package_search}
 use Rattle.reply_text.specs.Snapshots as replies
 use Rattle.step_model.specs.Case.{Case, Came, changes, refuses, or_else, plain_case, asking_case, unbuilt}
-use Rattle.step_model.specs.Queries.{chosen, found_by}
 use Rattle.step_model.specs.Names.{bad_name}
 pub use Rattle.snapshot_pull.specs.Snapshots.{taken, unknown, list_in, list_of, snapshot_from, with_snapshot, made}
 pub use Rattle.snapshot_pull.specs.Pulls.{MayArrive, flags_of, pull_case}
@@ -52,6 +52,34 @@ repo_list_in (Some repo) = repo.list
 abbrev pub repo_list_of : StateView → List ℕ → List Card
 repo_list_of state name = repo_list_in (repo_of name state.repos)
 
+-- no mirror has the name
+abbrev pub unknown_mirror : List MirrorView → List ℕ → Option Refusal
+unknown_mirror mirrors name = if is_some (mirror_of name mirrors) then None else Some (Unknown kinds.Mirror name)
+
+abbrev pub fetched_in : Option MirrorView → Option Fetched
+fetched_in None = None
+fetched_in (Some mirror) = mirror.updated
+
+-- what the mirror of that name fetched last, if it was ever updated
+abbrev pub fetched_of : StateView → List ℕ → Option Fetched
+fetched_of state name = fetched_in (mirror_of name state.mirrors)
+
+-- a mirror that fetched this was never updated
+abbrev pub never_in : Option Fetched → List ℕ → Option Refusal
+never_in fetched name = if is_some fetched then None else Some (NotUpdated name)
+
+-- the mirror of that name was never updated
+abbrev pub never_updated : StateView → List ℕ → Option Refusal
+never_updated state name = never_in (fetched_of state name) name
+
+abbrev pub fetched_list_in : Option Fetched → List Card
+fetched_list_in None = []
+fetched_list_in (Some fetched) = fetched.list
+
+-- the list of the mirror of that name
+abbrev pub fetched_list_of : StateView → List ℕ → List Card
+fetched_list_of state name = fetched_list_in (fetched_of state name)
+
 -- ---- a new snapshot
 
 -- a snapshot more, of this name and this list, where there is room for it
@@ -77,16 +105,30 @@ bad_copy state name repo = or_else (bad_name name) (or_else (bad_name repo) (or_
 abbrev pub copy_case : StateView → List ℕ → List ℕ → Case
 copy_case state name repo = plain_case (bad_copy state name repo) (created state name (repo_list_of state repo))
 
--- one of what queries choose of another. What follows dependencies isn't built.
-abbrev pub bad_filter : StateView → List ℕ → List ℕ → Option Refusal
-bad_filter state source destination =
+-- one of what a mirror fetched last
+abbrev pub bad_fetched : StateView → List ℕ → List ℕ → Option Refusal
+bad_fetched state name mirror =
+    or_else (bad_name name) (or_else (bad_name mirror) (or_else (taken state.snapshots name) (or_else (unknown_mirror state.mirrors mirror) (never_updated state mirror))))
+
+abbrev pub fetched_case : StateView → List ℕ → List ℕ → Case
+fetched_case state name mirror = plain_case (bad_fetched state name mirror) (created state name (fetched_list_of state mirror))
+
+-- what queries choose of the snapshot of that name, with what that needs of it where dependencies are followed
+abbrev pub chosen_for : StateView → Option Bool → PlainFollow → List ℕ → List (List ℕ) → List Card
+chosen_for state deps follow name queries = chosen_with (unwrap_or deps false) follow (list_of state name) queries
+
+-- one of what queries choose of another
+abbrev pub bad_pair : StateView → List ℕ → List ℕ → Option Refusal
+bad_pair state source destination =
     or_else (bad_name source) (or_else (bad_name destination) (or_else (taken state.snapshots destination) (unknown state.snapshots source)))
 
-abbrev pub without_following : Option Bool → PlainFollow → Case → Case
-without_following deps follow case = if follows deps follow then unbuilt else case
+-- an architecture that is written can't be listed, or else that
+abbrev pub bad_filter : StateView → PlainFollow → List ℕ → List ℕ → Option Refusal
+bad_filter state follow source destination = or_else (bad_follow follow) (bad_pair state source destination)
 
-abbrev pub filter_case : StateView → List ℕ → List ℕ → List (List ℕ) → Case
-filter_case state source destination queries = asking_case (bad_filter state source destination) queries (created state destination (chosen (list_of state source) queries))
+abbrev pub filter_case : StateView → Option Bool → PlainFollow → List ℕ → List ℕ → List (List ℕ) → Case
+filter_case state deps follow source destination queries =
+    asking_case (bad_filter state follow source destination) queries (created state destination (chosen_for state deps follow source queries))
 
 -- one of several, joined from left to right
 abbrev pub bad_merge : StateView → List ℕ → List (List ℕ) → Option Refusal
@@ -106,9 +148,13 @@ shown state name packages None = refuses (Unknown kinds.Snapshot name)
 abbrev pub show_case : StateView → Bool → List ℕ → Case
 show_case state packages name = plain_case (bad_snapshot state name) (shown state name packages (snapshot_of name state.snapshots))
 
--- what a query finds in a snapshot
-abbrev pub search_case : StateView → List ℕ → List ℕ → Case
-search_case state name query = asking_case (bad_snapshot state name) (query ∷ []) (changes (package_search (found_by (list_of state name) (query_of query))) state)
+-- what a query chooses of a snapshot
+abbrev pub bad_search : StateView → PlainFollow → List ℕ → Option Refusal
+bad_search state follow name = or_else (bad_follow follow) (bad_snapshot state name)
+
+abbrev pub search_case : StateView → Option Bool → PlainFollow → List ℕ → List ℕ → Case
+search_case state deps follow name query =
+    asking_case (bad_search state follow name) (query ∷ []) (changes (package_search (chosen_for state deps follow name (query ∷ []))) state)
 
 -- ---- names
 
@@ -143,16 +189,16 @@ drop_case state name = plain_case (bad_drop state name) (changes (own.snapshot_d
 
 -- ---- all of them
 
--- What each command of snapshots is in a state. What follows dependencies isn't built yet, nor what reads mirrors.
+-- What each command of snapshots is in a state.
 unfoldable pub snapshot_case : StateView → SnapshotCommand → Case
 snapshot_case state (snapshot_create name origins.Empty) = empty_case state name
 snapshot_case state (snapshot_create name (origins.Repo repo)) = copy_case state name repo
+snapshot_case state (snapshot_create name (origins.Mirror mirror)) = fetched_case state name mirror
 snapshot_case state snapshot_list = plain_case None (changes (replies.snapshot_list state.snapshots) state)
 snapshot_case state (snapshot_show packages name) = show_case state (unwrap_or packages false) name
-snapshot_case state (snapshot_filter deps follow source destination queries) = without_following deps follow (filter_case state source destination queries)
+snapshot_case state (snapshot_filter deps follow source destination queries) = filter_case state deps follow source destination queries
 snapshot_case state (snapshot_merge latest no_remove destination sources) = merge_case state (unwrap_or latest false) (unwrap_or no_remove false) destination sources
 snapshot_case state (snapshot_pull all dry no_deps no_remove follow name source destination queries) = pull_case state dry (flags_of all no_deps no_remove follow) follow name source destination queries
-snapshot_case state (snapshot_search deps follow name query) = without_following deps follow (search_case state name query)
+snapshot_case state (snapshot_search deps follow name query) = search_case state deps follow name query
 snapshot_case state (snapshot_rename before after) = rename_case state before after
 snapshot_case state (snapshot_drop name) = drop_case state name
-snapshot_case state command = unbuilt

@@ -6,9 +6,9 @@ ghost use Rattle.machine_state.specs.State.{Valid};
 ghost use Rattle.step_model.specs.Answers.{came, FaultIs};
 ghost use Rattle.step_model.specs.Case.{refuses};
 ghost use Rattle.snapshot_ops.specs.Answers.{IsDone, IsOther, IsRefused};
-ghost use Rattle.snapshot_ops.specs.Cases.{copy_case, created as created_in, empty_case, snapshot_case, taken};
+ghost use Rattle.snapshot_ops.specs.Cases.{copy_case, created as created_in, empty_case, fetched_case, snapshot_case, taken};
 
-use crate::early::{copy_early, empty_early};
+use crate::early::{copy_early, empty_early, fetched_early};
 use crate::replies::snapshot_created;
 use ap_text::Name;
 use command_value::{Command, Origin};
@@ -60,6 +60,22 @@ fn create_copy(
     created(alloc, state, name, list)
 }
 
+/// Makes a snapshot of what a mirror fetched last. Its packages are shared.
+fn create_fetched(
+    alloc: Global,
+    state: &State,
+    name: &Text,
+    mirror: &Text,
+) -> Result<Change, ChangeFault>
+    ensures ok { IsDone state.now (fetched_case state.now name.now mirror.now) result }
+    ensures fault { IsRefused state.now (fetched_case state.now name.now mirror.now) result }
+    ensures new { IsOther state.now result }
+{
+    let (name, fetched) = fetched_early(alloc, state, name, mirror)?;
+    let list = fetched.list.copy(alloc)?;
+    created(alloc, state, name, list)
+}
+
 /// Makes a snapshot of this origin.
 fn create_from(
     alloc: Global,
@@ -74,12 +90,12 @@ fn create_from(
     match origin {
         Origin::Empty => create_empty(alloc, state, name),
         Origin::Repo(repo) => create_copy(alloc, state, name, repo),
-        Origin::Mirror(_) => Err(ChangeFault::Refused(Refusal::NotBuilt)),
+        Origin::Mirror(mirror) => create_fetched(alloc, state, name, mirror),
     }
 }
 
-/// `snapshot create`: a new snapshot that is empty, or has what a repository has now. One from a mirror isn't built yet. It needs a
-/// command of that verb.
+/// `snapshot create`: a new snapshot that is empty, or has what a repository has now, or what a mirror fetched last. It needs a command of
+/// that verb.
 pub fn create<M: Patterns>(
     alloc: Global,
     state: &State,

@@ -1,13 +1,17 @@
 //! What each command of snapshots is refused for by its names.
 ghost use Rattle.std.specs.Prelude.{◌≡◌, IfOk, IfErr, OnOk, None, Some};
+ghost use Rattle.command_value.specs.Plain.{plain_follow};
 ghost use Rattle.machine_state.specs.State.{Valid, repo_of, snapshot_of};
+ghost use Rattle.package_choice.specs.Choice.{bad_follow};
 ghost use Rattle.step_model.specs.Answers.{IsFirst};
-ghost use Rattle.snapshot_ops.specs.Cases.{bad_copy, bad_drop, bad_empty, bad_filter, bad_merge, bad_rename, bad_snapshot};
+ghost use Rattle.snapshot_ops.specs.Cases.{bad_copy, bad_drop, bad_empty, bad_fetched, bad_filter, bad_merge, bad_pair, bad_rename, bad_search, bad_snapshot, fetched_of};
 
-use crate::checks::{all_there, names_of, repo_there, unused};
+use crate::checks::{all_there, fetched_there, names_of, repo_there, unused};
 use ap_text::Name;
+use command_value::Follow;
 use control_stanza::Text;
-use machine_state::{ChangeFault, Repo, Snapshot, State};
+use machine_state::{ChangeFault, Fetched, Repo, Snapshot, State};
+use package_choice::check_follow;
 use snapshot_pull::{free, there};
 use std::alloc::Global;
 use step_model::name_of;
@@ -42,6 +46,25 @@ pub(crate) fn copy_early<'a>(
     Ok((name, repo))
 }
 
+/// The name of a new snapshot, and what the mirror that it is made of fetched last: both are names before one is looked for.
+pub(crate) fn fetched_early<'a>(
+    alloc: Global,
+    state: &'a State,
+    text: &Text,
+    mirror: &Text,
+) -> Result<(Name, &'a Fetched), ChangeFault>
+    ensures good { Valid state.now → OnOk result (bad_fetched state.now text.now mirror.now ≡ None) }
+    ensures fault { Valid state.now → IfErr result (IsFirst (bad_fetched state.now text.now mirror.now)) }
+    ensures name { IfOk result (λ made. made.0 ≡ text.now) }
+    ensures found { Valid state.now → IfOk result (λ made. fetched_of state.now mirror.now ≡ Some made.1.now) }
+{
+    let name = name_of(alloc, text)?;
+    let of = name_of(alloc, mirror)?;
+    free(alloc, state, &name)?;
+    let fetched = fetched_there(alloc, state, &of)?;
+    Ok((name, fetched))
+}
+
 /// The snapshot that a text names.
 pub(crate) fn named_snapshot<'a>(
     alloc: Global,
@@ -56,15 +79,31 @@ pub(crate) fn named_snapshot<'a>(
     there(alloc, state, &name)
 }
 
-/// The snapshot that is filtered, and the name of the new one.
-pub(crate) fn filter_early<'a>(
+/// The snapshot that is searched: the architectures that are written can be listed before a name is looked at.
+pub(crate) fn search_early<'a>(
+    alloc: Global,
+    state: &'a State,
+    follow: &Follow,
+    text: &Text,
+) -> Result<&'a Snapshot, ChangeFault>
+    ensures good { Valid state.now → OnOk result (bad_search state.now (plain_follow follow.now) text.now ≡ None) }
+    ensures fault { Valid state.now → IfErr result (IsFirst (bad_search state.now (plain_follow follow.now) text.now)) }
+    ensures listed { OnOk result (bad_follow (plain_follow follow.now) ≡ None) }
+    ensures found { Valid state.now → IfOk result (λ snapshot. snapshot_of text.now state.now.snapshots ≡ Some snapshot.now) }
+{
+    check_follow(alloc, follow)?;
+    named_snapshot(alloc, state, text)
+}
+
+/// The snapshot of the first name, and the second, which is free: both are names before one is looked for.
+fn named_pair<'a>(
     alloc: Global,
     state: &'a State,
     source: &Text,
     destination: &Text,
 ) -> Result<(&'a Snapshot, Name), ChangeFault>
-    ensures good { Valid state.now → OnOk result (bad_filter state.now source.now destination.now ≡ None) }
-    ensures fault { Valid state.now → IfErr result (IsFirst (bad_filter state.now source.now destination.now)) }
+    ensures good { Valid state.now → OnOk result (bad_pair state.now source.now destination.now ≡ None) }
+    ensures fault { Valid state.now → IfErr result (IsFirst (bad_pair state.now source.now destination.now)) }
     ensures found { Valid state.now → IfOk result (λ pair. snapshot_of source.now state.now.snapshots ≡ Some pair.0.now) }
     ensures name { IfOk result (λ pair. pair.1 ≡ destination.now) }
 {
@@ -73,6 +112,24 @@ pub(crate) fn filter_early<'a>(
     free(alloc, state, &to)?;
     let snapshot = there(alloc, state, &from)?;
     Ok((snapshot, to))
+}
+
+/// The snapshot that is filtered, and the name of the new one: the architectures that are written can be listed before a name is looked at.
+pub(crate) fn filter_early<'a>(
+    alloc: Global,
+    state: &'a State,
+    follow: &Follow,
+    source: &Text,
+    destination: &Text,
+) -> Result<(&'a Snapshot, Name), ChangeFault>
+    ensures good { Valid state.now → OnOk result (bad_filter state.now (plain_follow follow.now) source.now destination.now ≡ None) }
+    ensures fault { Valid state.now → IfErr result (IsFirst (bad_filter state.now (plain_follow follow.now) source.now destination.now)) }
+    ensures listed { OnOk result (bad_follow (plain_follow follow.now) ≡ None) }
+    ensures found { Valid state.now → IfOk result (λ pair. snapshot_of source.now state.now.snapshots ≡ Some pair.0.now) }
+    ensures name { IfOk result (λ pair. pair.1 ≡ destination.now) }
+{
+    check_follow(alloc, follow)?;
+    named_pair(alloc, state, source, destination)
 }
 
 /// The name of a new snapshot, and those of the snapshots that it is merged of.

@@ -1,19 +1,20 @@
 //! The commands of snapshots, by their verbs.
-ghost use Rattle.std.specs.Prelude.{◌≡◌, ◌≤◌, Bool, IfOk, IfErr, None};
+ghost use Rattle.std.specs.Prelude.{◌≡◌, ◌≤◌, Bool, Option, IfOk, IfErr, None};
 ghost use Rattle.command_value.specs.Plain.{SnapshotCommand, plain, plain_follow, of_snapshot, snapshot_create};
 ghost use Rattle.step_model.specs.Answers.{KeepsText};
 ghost use Rattle.snapshot_ops.specs.Answers.{IsBarred, IsBarredTold, IsDone, IsNeeded, IsOther, IsRefusedTold};
-ghost use Rattle.snapshot_ops.specs.Cases.{copy_case, drop_case, empty_case, filter_case, merge_case, rename_case, search_case, show_case, snapshot_case, without_following};
+ghost use Rattle.snapshot_ops.specs.Cases.{copy_case, drop_case, empty_case, fetched_case, filter_case, merge_case, rename_case, search_case, show_case, snapshot_case};
 
 use crate::creation::create;
 use crate::early::{
-    copy_early, drop_early, empty_early, filter_early, merge_early, named_snapshot, rename_early,
+    copy_early, drop_early, empty_early, fetched_early, filter_early, merge_early, named_snapshot,
+    rename_early, search_early,
 };
 use crate::filtering::{filter, search};
 use crate::merging::merge;
 use crate::naming::{drop, rename};
 use crate::shown::{list, show};
-use command_value::{Command, Follow, Origin, is_following};
+use command_value::{Command, Follow, Origin};
 use control_stanza::Text;
 use machine_state::{Change, ChangeFault, Refusal, State};
 use query_eval::Patterns;
@@ -42,6 +43,19 @@ fn copy_needs(
     Ok(Reading::Nothing)
 }
 
+fn fetched_needs(
+    alloc: Global,
+    state: &State,
+    name: &Text,
+    mirror: &Text,
+) -> Result<Reading, ChangeFault>
+    ensures ok { IsNeeded state.now (fetched_case state.now name.now mirror.now) result }
+    ensures fault { IsBarred state.now (fetched_case state.now name.now mirror.now) result }
+{
+    fetched_early(alloc, state, name, mirror)?;
+    Ok(Reading::Nothing)
+}
+
 fn create_needs(
     alloc: Global,
     state: &State,
@@ -54,7 +68,7 @@ fn create_needs(
     match origin {
         Origin::Empty => empty_needs(alloc, state, name),
         Origin::Repo(repo) => copy_needs(alloc, state, name, repo),
-        Origin::Mirror(_) => Err(ChangeFault::Refused(Refusal::NotBuilt)),
+        Origin::Mirror(mirror) => fetched_needs(alloc, state, name, mirror),
     }
 }
 
@@ -69,40 +83,20 @@ fn show_needs(alloc: Global, state: &State, name: &Text) -> Result<Reading, Chan
 fn filter_needs<M: Patterns>(
     alloc: Global,
     state: &State,
-    source: &Text,
-    destination: &Text,
-    queries: &[Text],
-    patterns: &mut M,
-) -> Result<Reading, ChangeFault>
-    ensures ok { IsNeeded state.now (filter_case state.now source.now destination.now queries.now) result }
-    ensures fault { IsBarredTold state.now (filter_case state.now source.now destination.now queries.now) (M.refusals patterns.old) (M.refusals patterns.new) (M.refused patterns.new) result }
-    ensures never_falls { M.refusals patterns.old ≤ M.refusals patterns.new }
-    ensures kept { KeepsText (M.refused patterns.old) (M.refused patterns.new) result }
-{
-    filter_early(alloc, state, source, destination)?;
-    prepared_all(alloc, queries, patterns)?;
-    Ok(Reading::Nothing)
-}
-
-fn filter_plain_needs<M: Patterns>(
-    alloc: Global,
-    state: &State,
-    with_deps: &Option<bool>,
     follow: &Follow,
     source: &Text,
     destination: &Text,
     queries: &[Text],
     patterns: &mut M,
 ) -> Result<Reading, ChangeFault>
-    ensures ok { IsNeeded state.now (without_following with_deps.now (plain_follow follow.now) (filter_case state.now source.now destination.now queries.now)) result }
-    ensures fault { IsBarredTold state.now (without_following with_deps.now (plain_follow follow.now) (filter_case state.now source.now destination.now queries.now)) (M.refusals patterns.old) (M.refusals patterns.new) (M.refused patterns.new) result }
+    ensures ok { (deps : Option Bool) → IsNeeded state.now (filter_case state.now deps (plain_follow follow.now) source.now destination.now queries.now) result }
+    ensures fault { (deps : Option Bool) → IsBarredTold state.now (filter_case state.now deps (plain_follow follow.now) source.now destination.now queries.now) (M.refusals patterns.old) (M.refusals patterns.new) (M.refused patterns.new) result }
     ensures never_falls { M.refusals patterns.old ≤ M.refusals patterns.new }
     ensures kept { KeepsText (M.refused patterns.old) (M.refused patterns.new) result }
 {
-    if is_following(with_deps, follow) {
-        return Err(ChangeFault::Refused(Refusal::NotBuilt));
-    }
-    filter_needs(alloc, state, source, destination, queries, patterns)
+    filter_early(alloc, state, follow, source, destination)?;
+    prepared_all(alloc, queries, patterns)?;
+    Ok(Reading::Nothing)
 }
 
 fn merge_needs(
@@ -121,38 +115,19 @@ fn merge_needs(
 fn search_needs<M: Patterns>(
     alloc: Global,
     state: &State,
-    name: &Text,
-    query: &Text,
-    patterns: &mut M,
-) -> Result<Reading, ChangeFault>
-    ensures ok { IsNeeded state.now (search_case state.now name.now query.now) result }
-    ensures fault { IsBarredTold state.now (search_case state.now name.now query.now) (M.refusals patterns.old) (M.refusals patterns.new) (M.refused patterns.new) result }
-    ensures never_falls { M.refusals patterns.old ≤ M.refusals patterns.new }
-    ensures kept { KeepsText (M.refused patterns.old) (M.refused patterns.new) result }
-{
-    named_snapshot(alloc, state, name)?;
-    prepared(alloc, query, patterns)?;
-    Ok(Reading::Nothing)
-}
-
-fn search_plain_needs<M: Patterns>(
-    alloc: Global,
-    state: &State,
-    with_deps: &Option<bool>,
     follow: &Follow,
     name: &Text,
     query: &Text,
     patterns: &mut M,
 ) -> Result<Reading, ChangeFault>
-    ensures ok { IsNeeded state.now (without_following with_deps.now (plain_follow follow.now) (search_case state.now name.now query.now)) result }
-    ensures fault { IsBarredTold state.now (without_following with_deps.now (plain_follow follow.now) (search_case state.now name.now query.now)) (M.refusals patterns.old) (M.refusals patterns.new) (M.refused patterns.new) result }
+    ensures ok { (deps : Option Bool) → IsNeeded state.now (search_case state.now deps (plain_follow follow.now) name.now query.now) result }
+    ensures fault { (deps : Option Bool) → IsBarredTold state.now (search_case state.now deps (plain_follow follow.now) name.now query.now) (M.refusals patterns.old) (M.refusals patterns.new) (M.refused patterns.new) result }
     ensures never_falls { M.refusals patterns.old ≤ M.refusals patterns.new }
     ensures kept { KeepsText (M.refused patterns.old) (M.refused patterns.new) result }
 {
-    if is_following(with_deps, follow) {
-        return Err(ChangeFault::Refused(Refusal::NotBuilt));
-    }
-    search_needs(alloc, state, name, query, patterns)
+    search_early(alloc, state, follow, name)?;
+    prepared(alloc, query, patterns)?;
+    Ok(Reading::Nothing)
 }
 
 fn rename_needs(
@@ -196,21 +171,12 @@ pub fn needs<M: Patterns>(
         Command::SnapshotList => Ok(Reading::Nothing),
         Command::SnapshotShow { name, .. } => show_needs(alloc, state, name),
         Command::SnapshotFilter {
-            with_deps,
             follow,
             source,
             destination,
             queries,
-        } => filter_plain_needs(
-            alloc,
-            state,
-            with_deps,
-            follow,
-            source,
-            destination,
-            queries,
-            patterns,
-        ),
+            ..
+        } => filter_needs(alloc, state, follow, source, destination, queries, patterns),
         Command::SnapshotMerge {
             destination,
             sources,
@@ -234,11 +200,11 @@ pub fn needs<M: Patterns>(
             patterns,
         ),
         Command::SnapshotSearch {
-            with_deps,
             follow,
             name,
             query,
-        } => search_plain_needs(alloc, state, with_deps, follow, name, query, patterns),
+            ..
+        } => search_needs(alloc, state, follow, name, query, patterns),
         Command::SnapshotRename { from_name, to_name } => {
             rename_needs(alloc, state, from_name, to_name)
         }

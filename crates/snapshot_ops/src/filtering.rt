@@ -1,43 +1,26 @@
 //! What queries choose of a snapshot.
-ghost use Rattle.std.specs.Prelude.{◌≡◌, ◌≤◌, List, ℕ, Bool, Option, IfOk, IfErr, None};
+ghost use Rattle.std.specs.Prelude.{◌≡◌, ◌≤◌, ◌∷◌, [], List, ℕ, Bool, false, Option, IfOk, IfErr, None, Ok, unwrap_or};
 ghost use Rattle.command_value.specs.Plain.{PlainFollow, plain, plain_follow, of_snapshot, snapshot_filter, snapshot_search};
+ghost use Rattle.package_choice.specs.Choice.{bad_follow, chosen_with};
+ghost use Rattle.query_grammar.specs.Said.{query_of};
 ghost use Rattle.step_model.specs.Answers.{KeepsText};
 ghost use Rattle.snapshot_ops.specs.Answers.{IsDone, IsOther, IsRefusedTold};
-ghost use Rattle.snapshot_ops.specs.Cases.{filter_case, search_case, snapshot_case, without_following};
+ghost use Rattle.snapshot_ops.specs.Cases.{filter_case, search_case, snapshot_case};
 
 use crate::creation::created;
-use crate::early::{filter_early, named_snapshot};
-use command_value::{Command, Follow, is_following};
+use crate::early::{filter_early, search_early};
+use command_value::{Command, Follow};
 use control_stanza::Text;
 use machine_state::{Change, ChangeFault, Refusal, State};
-use query_eval::Patterns;
+use package_choice::choose;
+use package_list::PackageList;
+use query_eval::{Patterns, Prepared};
 use reply_text::package_search;
-use std::alloc::Global;
-use step_model::{chosen_in, found_in, prepared, prepared_all};
+use std::alloc::{AllocError, Global};
+use step_model::{prepared, prepared_all};
 
 /// Makes a snapshot of what queries choose of another.
 fn filter_chosen<M: Patterns>(
-    alloc: Global,
-    state: &State,
-    source: &Text,
-    destination: &Text,
-    queries: &[Text],
-    patterns: &mut M,
-) -> Result<Change, ChangeFault>
-    ensures ok { IsDone state.now (filter_case state.now source.now destination.now queries.now) result }
-    ensures fault { IsRefusedTold state.now (filter_case state.now source.now destination.now queries.now) (M.refusals patterns.old) (M.refusals patterns.new) (M.refused patterns.new) result }
-    ensures new { IsOther state.now result }
-    ensures never_falls { M.refusals patterns.old ≤ M.refusals patterns.new }
-    ensures kept { KeepsText (M.refused patterns.old) (M.refused patterns.new) result }
-{
-    let (snapshot, name) = filter_early(alloc, state, source, destination)?;
-    let asked = prepared_all(alloc, queries, patterns)?;
-    let list = chosen_in(alloc, &snapshot.list, &asked)?;
-    created(alloc, state, name, list)
-}
-
-/// The same where no flag of following is written.
-fn filter_plain<M: Patterns>(
     alloc: Global,
     state: &State,
     with_deps: &Option<bool>,
@@ -47,20 +30,20 @@ fn filter_plain<M: Patterns>(
     queries: &[Text],
     patterns: &mut M,
 ) -> Result<Change, ChangeFault>
-    ensures ok { IsDone state.now (without_following with_deps.now (plain_follow follow.now) (filter_case state.now source.now destination.now queries.now)) result }
-    ensures fault { IsRefusedTold state.now (without_following with_deps.now (plain_follow follow.now) (filter_case state.now source.now destination.now queries.now)) (M.refusals patterns.old) (M.refusals patterns.new) (M.refused patterns.new) result }
+    ensures ok { IsDone state.now (filter_case state.now with_deps.now (plain_follow follow.now) source.now destination.now queries.now) result }
+    ensures fault { IsRefusedTold state.now (filter_case state.now with_deps.now (plain_follow follow.now) source.now destination.now queries.now) (M.refusals patterns.old) (M.refusals patterns.new) (M.refused patterns.new) result }
     ensures new { IsOther state.now result }
     ensures never_falls { M.refusals patterns.old ≤ M.refusals patterns.new }
     ensures kept { KeepsText (M.refused patterns.old) (M.refused patterns.new) result }
 {
-    if is_following(with_deps, follow) {
-        return Err(ChangeFault::Refused(Refusal::NotBuilt));
-    }
-    filter_chosen(alloc, state, source, destination, queries, patterns)
+    let (snapshot, name) = filter_early(alloc, state, follow, source, destination)?;
+    let asked = prepared_all(alloc, queries, patterns)?;
+    let list = choose(alloc, &snapshot.list, &asked, with_deps, follow)?;
+    created(alloc, state, name, list)
 }
 
-/// `snapshot filter`: a new snapshot of the packages of another of which some query is true. What follows dependencies isn't built
-/// yet. It needs a command of that verb.
+/// `snapshot filter`: a new snapshot of the packages of another of which some query is true, with `-with-deps` together with what they
+/// depend on of it. It needs a command of that verb.
 pub fn filter<M: Patterns>(
     alloc: Global,
     state: &State,
@@ -82,7 +65,7 @@ pub fn filter<M: Patterns>(
             source,
             destination,
             queries,
-        } => filter_plain(
+        } => filter_chosen(
             alloc,
             state,
             with_deps,
@@ -96,29 +79,23 @@ pub fn filter<M: Patterns>(
     }
 }
 
-/// Tells what a query finds in a snapshot.
-fn search_named<M: Patterns>(
+/// What a query chooses of a list.
+fn found(
     alloc: Global,
-    state: &State,
-    name: &Text,
-    query: &Text,
-    patterns: &mut M,
-) -> Result<Change, ChangeFault>
-    ensures ok { IsDone state.now (search_case state.now name.now query.now) result }
-    ensures fault { IsRefusedTold state.now (search_case state.now name.now query.now) (M.refusals patterns.old) (M.refusals patterns.new) (M.refused patterns.new) result }
-    ensures new { IsOther state.now result }
-    ensures never_falls { M.refusals patterns.old ≤ M.refusals patterns.new }
-    ensures kept { KeepsText (M.refused patterns.old) (M.refused patterns.new) result }
+    list: &PackageList,
+    query: Prepared,
+    with_deps: &Option<bool>,
+    follow: &Follow,
+) -> Result<PackageList, AllocError>
+    requires { bad_follow (plain_follow follow.now) ≡ None }
+    ensures { (text : List ℕ) → query_of text ≡ Ok query → IfOk result (λ found. found ≡ chosen_with (unwrap_or with_deps.now false) (plain_follow follow.now) list.now (text ∷ [])) }
 {
-    let snapshot = named_snapshot(alloc, state, name)?;
-    let asked = prepared(alloc, query, patterns)?;
-    let found = found_in(alloc, &snapshot.list, &asked)?;
-    let reply = package_search(alloc, &found)?;
-    Ok(Change { state: None, reply })
+    let asked = [query];
+    choose(alloc, list, &asked, with_deps, follow)
 }
 
-/// The same where no flag of following is written.
-fn search_plain<M: Patterns>(
+/// Tells what a query chooses of a snapshot.
+fn search_named<M: Patterns>(
     alloc: Global,
     state: &State,
     with_deps: &Option<bool>,
@@ -127,20 +104,21 @@ fn search_plain<M: Patterns>(
     query: &Text,
     patterns: &mut M,
 ) -> Result<Change, ChangeFault>
-    ensures ok { IsDone state.now (without_following with_deps.now (plain_follow follow.now) (search_case state.now name.now query.now)) result }
-    ensures fault { IsRefusedTold state.now (without_following with_deps.now (plain_follow follow.now) (search_case state.now name.now query.now)) (M.refusals patterns.old) (M.refusals patterns.new) (M.refused patterns.new) result }
+    ensures ok { IsDone state.now (search_case state.now with_deps.now (plain_follow follow.now) name.now query.now) result }
+    ensures fault { IsRefusedTold state.now (search_case state.now with_deps.now (plain_follow follow.now) name.now query.now) (M.refusals patterns.old) (M.refusals patterns.new) (M.refused patterns.new) result }
     ensures new { IsOther state.now result }
     ensures never_falls { M.refusals patterns.old ≤ M.refusals patterns.new }
     ensures kept { KeepsText (M.refused patterns.old) (M.refused patterns.new) result }
 {
-    if is_following(with_deps, follow) {
-        return Err(ChangeFault::Refused(Refusal::NotBuilt));
-    }
-    search_named(alloc, state, name, query, patterns)
+    let snapshot = search_early(alloc, state, follow, name)?;
+    let asked = prepared(alloc, query, patterns)?;
+    let chosen = found(alloc, &snapshot.list, asked, with_deps, follow)?;
+    let reply = package_search(alloc, &chosen)?;
+    Ok(Change { state: None, reply })
 }
 
-/// `snapshot search`: the packages of a snapshot of which the query is true. What follows dependencies isn't built yet. It needs a
-/// command of that verb.
+/// `snapshot search`: the packages of a snapshot of which the query is true, with `-with-deps` together with what they depend on of it.
+/// It needs a command of that verb.
 pub fn search<M: Patterns>(
     alloc: Global,
     state: &State,
@@ -160,7 +138,7 @@ pub fn search<M: Patterns>(
             follow,
             name,
             query,
-        } => search_plain(alloc, state, with_deps, follow, name, query, patterns),
+        } => search_named(alloc, state, with_deps, follow, name, query, patterns),
         _ => Err(ChangeFault::Refused(Refusal::NotBuilt)),
     }
 }

@@ -1,8 +1,8 @@
-use Rattle.std.proofs.Common.{◌∙◌, ℕ, List, ap, sym, None, Some}
+use Rattle.std.proofs.Common.{◌∙◌, ℕ, List, ap, sym, None, Some, false, unwrap_or}
 use Rattle.command_value.specs.Plain.{plain, plain_follow, of_repo, repo_copy, repo_move, repo_remove}
 use Rattle.step_model.specs.Refuses.{Refuses}
 use Rattle.step_model.proofs.FaultLemmas.{keeps_same, none_told, wanted_along, refuses_along, told_along}
-use Rattle.repo_packages.specs.PackageCases.{copy_case, move_case}
+use Rattle.repo_packages.specs.PackageCases.{chosen_for, copy_case, copying, move_case, moving}
 use Rattle.local_repo.specs.Cases.{repo_case}
 use Rattle.local_repo.proofs.CaseLemmas.{case_along, is_named}
 use Rattle.local_repo.proofs.family.needs.Goals as goal
@@ -30,19 +30,19 @@ returns-in-RepoRemove-clause-fault g c = λ k e v. told_along _ _ _ _ _ c.remova
 
 pub returns-in-RepoCopy-clause-ok : goal.returns-in-RepoCopy-clause-ok
 unfolding repo_case copy_case
-returns-in-RepoCopy-clause-ok g c = λ k e v. wanted_along None _ _ c.pair_needs.result (case_along c.args.state.now c.args.command.now k _ e (ap plain c.in-RepoCopy.is ∙ ap (λ (q : List (List ℕ)). of_repo (repo_copy c.in-RepoCopy.dry_run c.in-RepoCopy.with_deps (plain_follow c.in-RepoCopy.follow) c.in-RepoCopy.source c.in-RepoCopy.destination q)) (sym c.deref-in-RepoCopy.ensures.value))) (c.pair_needs.ensures.ok _ v)
+returns-in-RepoCopy-clause-ok g c = λ k e v. wanted_along None _ _ c.pair_needs.result (case_along c.args.state.now c.args.command.now k _ e (ap plain c.in-RepoCopy.is ∙ ap (λ (q : List (List ℕ)). of_repo (repo_copy c.in-RepoCopy.dry_run c.in-RepoCopy.with_deps (plain_follow c.in-RepoCopy.follow) c.in-RepoCopy.source c.in-RepoCopy.destination q)) (sym c.deref-in-RepoCopy.ensures.value))) (c.pair_needs.ensures.ok c.in-RepoCopy.with_deps (copying c.args.state.now (unwrap_or c.in-RepoCopy.dry_run false) c.in-RepoCopy.destination (chosen_for c.args.state.now c.in-RepoCopy.with_deps (plain_follow c.in-RepoCopy.follow) c.in-RepoCopy.source c.deref-in-RepoCopy.result.now)) v)
 
 pub returns-in-RepoCopy-clause-fault : goal.returns-in-RepoCopy-clause-fault
 unfolding repo_case copy_case
-returns-in-RepoCopy-clause-fault g c = λ k e v. told_along _ _ _ _ _ c.pair_needs.result (case_along c.args.state.now c.args.command.now k _ e (ap plain c.in-RepoCopy.is ∙ ap (λ (q : List (List ℕ)). of_repo (repo_copy c.in-RepoCopy.dry_run c.in-RepoCopy.with_deps (plain_follow c.in-RepoCopy.follow) c.in-RepoCopy.source c.in-RepoCopy.destination q)) (sym c.deref-in-RepoCopy.ensures.value))) (c.pair_needs.ensures.fault _ v)
+returns-in-RepoCopy-clause-fault g c = λ k e v. told_along _ _ _ _ _ c.pair_needs.result (case_along c.args.state.now c.args.command.now k _ e (ap plain c.in-RepoCopy.is ∙ ap (λ (q : List (List ℕ)). of_repo (repo_copy c.in-RepoCopy.dry_run c.in-RepoCopy.with_deps (plain_follow c.in-RepoCopy.follow) c.in-RepoCopy.source c.in-RepoCopy.destination q)) (sym c.deref-in-RepoCopy.ensures.value))) (c.pair_needs.ensures.fault c.in-RepoCopy.with_deps (copying c.args.state.now (unwrap_or c.in-RepoCopy.dry_run false) c.in-RepoCopy.destination (chosen_for c.args.state.now c.in-RepoCopy.with_deps (plain_follow c.in-RepoCopy.follow) c.in-RepoCopy.source c.deref-in-RepoCopy.result.now)) v)
 
 pub returns-in-RepoMove-clause-ok : goal.returns-in-RepoMove-clause-ok
 unfolding repo_case move_case
-returns-in-RepoMove-clause-ok g c = λ k e v. wanted_along None _ _ c.pair_needs-in-RepoMove.result (case_along c.args.state.now c.args.command.now k _ e (ap plain c.in-RepoMove.is ∙ ap (λ (q : List (List ℕ)). of_repo (repo_move c.in-RepoMove.dry_run c.in-RepoMove.with_deps (plain_follow c.in-RepoMove.follow) c.in-RepoMove.source c.in-RepoMove.destination q)) (sym c.deref-in-RepoMove.ensures.value))) (c.pair_needs-in-RepoMove.ensures.ok _ v)
+returns-in-RepoMove-clause-ok g c = λ k e v. wanted_along None _ _ c.pair_needs-in-RepoMove.result (case_along c.args.state.now c.args.command.now k _ e (ap plain c.in-RepoMove.is ∙ ap (λ (q : List (List ℕ)). of_repo (repo_move c.in-RepoMove.dry_run c.in-RepoMove.with_deps (plain_follow c.in-RepoMove.follow) c.in-RepoMove.source c.in-RepoMove.destination q)) (sym c.deref-in-RepoMove.ensures.value))) (c.pair_needs-in-RepoMove.ensures.ok c.in-RepoMove.with_deps (moving c.args.state.now (unwrap_or c.in-RepoMove.dry_run false) c.in-RepoMove.source c.in-RepoMove.destination (chosen_for c.args.state.now c.in-RepoMove.with_deps (plain_follow c.in-RepoMove.follow) c.in-RepoMove.source c.deref-in-RepoMove.result.now)) v)
 
 pub returns-in-RepoMove-clause-fault : goal.returns-in-RepoMove-clause-fault
 unfolding repo_case move_case
-returns-in-RepoMove-clause-fault g c = λ k e v. told_along _ _ _ _ _ c.pair_needs-in-RepoMove.result (case_along c.args.state.now c.args.command.now k _ e (ap plain c.in-RepoMove.is ∙ ap (λ (q : List (List ℕ)). of_repo (repo_move c.in-RepoMove.dry_run c.in-RepoMove.with_deps (plain_follow c.in-RepoMove.follow) c.in-RepoMove.source c.in-RepoMove.destination q)) (sym c.deref-in-RepoMove.ensures.value))) (c.pair_needs-in-RepoMove.ensures.fault _ v)
+returns-in-RepoMove-clause-fault g c = λ k e v. told_along _ _ _ _ _ c.pair_needs-in-RepoMove.result (case_along c.args.state.now c.args.command.now k _ e (ap plain c.in-RepoMove.is ∙ ap (λ (q : List (List ℕ)). of_repo (repo_move c.in-RepoMove.dry_run c.in-RepoMove.with_deps (plain_follow c.in-RepoMove.follow) c.in-RepoMove.source c.in-RepoMove.destination q)) (sym c.deref-in-RepoMove.ensures.value))) (c.pair_needs-in-RepoMove.ensures.fault c.in-RepoMove.with_deps (moving c.args.state.now (unwrap_or c.in-RepoMove.dry_run false) c.in-RepoMove.source c.in-RepoMove.destination (chosen_for c.args.state.now c.in-RepoMove.with_deps (plain_follow c.in-RepoMove.follow) c.in-RepoMove.source c.deref-in-RepoMove.result.now)) v)
 
 pub returns-in_default-clause-ok : goal.returns-in_default-clause-ok
 returns-in_default-clause-ok g c = λ k e v.

@@ -9,7 +9,7 @@ use Rattle.step_model.specs.Refuses.{reading}
 use Rattle.step_model.proofs.RefusalLemmas.{refuses_first}
 use Rattle.repo_packages.specs.PackageCases as repos
 use Rattle.machine_step.specs.Step.{case_of, giving, read_for}
-use Rattle.machine_step.proofs.FamilyLemmas.{is_repo, is_snapshot, is_other, case_of_repo, case_of_snapshot, case_of_other, case_of_rest, arrives_repo}
+use Rattle.machine_step.proofs.FamilyLemmas.{is_repo, is_snapshot, is_mirror, is_other, case_of_repo, case_of_snapshot, case_of_mirror, case_of_other, case_of_rest, arrives_repo}
 use Rattle.step_model.proofs.FaultLemmas.{ok_told}
 use Rattle.machine_step.proofs.steps.change_of.Goals as goal
 
@@ -50,6 +50,20 @@ returns-in-Snapshot-clause-fault g c = λ now inbox large v may.
     subst (λ (k : Case). IfErr c.change-in-Snapshot.result (FaultIs (λ refusal. Told (g.M.Patterns.refusals c.args.patterns.now) (g.M.Patterns.refusals c.change-in-Snapshot.new.patterns) (g.M.Patterns.refused c.change-in-Snapshot.new.patterns) (λ large. IsRefusedFor large k c.args.arrived.now refusal))))
     (case_of_snapshot now s (plain c.args.command.now) r.0 r.1) (c.change-in-Snapshot.ensures.fault r.0 r.1 c.args.arrived.now v)
 
+pub returns-in-Mirror-clause-ok : goal.returns-in-Mirror-clause-ok
+returns-in-Mirror-clause-ok g c = λ now inbox large v may.
+    let s = c.args.state.now in
+    let r = is_mirror (plain c.args.command.now) (sym c.family_of.ensures ∙ c.in-Mirror.is) in
+    ok_told _ _ _ s _ c.args.arrived.now c.change-in-Mirror.result
+    (subst (λ (k : Case). IfOk c.change-in-Mirror.result (λ change. ComesTo None k c.args.arrived.now (came s change))) (case_of_mirror now s (plain c.args.command.now) r.0 r.1) (c.change-in-Mirror.ensures.ok r.0 c.args.arrived.now r.1 v))
+
+pub returns-in-Mirror-clause-fault : goal.returns-in-Mirror-clause-fault
+returns-in-Mirror-clause-fault g c = λ now inbox large v may.
+    let s = c.args.state.now in
+    let r = is_mirror (plain c.args.command.now) (sym c.family_of.ensures ∙ c.in-Mirror.is) in
+    subst (λ (k : Case). IfErr c.change-in-Mirror.result (FaultIs (λ refusal. Told (g.M.Patterns.refusals c.args.patterns.now) (g.M.Patterns.refusals c.change-in-Mirror.new.patterns) (g.M.Patterns.refused c.change-in-Mirror.new.patterns) (λ large. IsRefusedFor large k c.args.arrived.now refusal))))
+    (case_of_mirror now s (plain c.args.command.now) r.0 r.1) (c.change-in-Mirror.ensures.fault r.0 c.args.arrived.now r.1 v)
+
 pub returns-in-Other-clause-ok : goal.returns-in-Other-clause-ok
 returns-in-Other-clause-ok g c = λ now inbox large v may.
     let s = c.args.state.now in
@@ -66,5 +80,5 @@ returns-in-Other-clause-fault g c = λ now inbox large v may.
 
 pub returns-in_default-clause-fault : goal.returns-in_default-clause-fault
 returns-in_default-clause-fault g c = λ now inbox large v may.
-    let none = case_of_rest now c.args.state.now (plain c.args.command.now) (λ e. c.in_default.not-Repo (c.family_of.ensures ∙ e)) (λ e. c.in_default.not-Snapshot (c.family_of.ensures ∙ e)) (λ e. c.in_default.not-Other (c.family_of.ensures ∙ e)) in
+    let none = case_of_rest now c.args.state.now (plain c.args.command.now) (λ e. c.in_default.not-Repo (c.family_of.ensures ∙ e)) (λ e. c.in_default.not-Snapshot (c.family_of.ensures ∙ e)) (λ e. c.in_default.not-Mirror (c.family_of.ensures ∙ e)) (λ e. c.in_default.not-Other (c.family_of.ensures ∙ e)) in
     (None, tt, inl (refuses_first None _ NotBuilt (ap (λ (k : Case). k.early) none)))

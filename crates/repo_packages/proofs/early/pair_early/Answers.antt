@@ -1,17 +1,17 @@
-use Rattle.std.proofs.Common.{◌∙◌, ap, sym}
 use Rattle.command_value.specs.Plain.{plain_follow}
-use Rattle.step_model.specs.Case.{Case}
-use Rattle.step_model.proofs.FaultLemmas.{err_map}
-use Rattle.repo_packages.proofs.OwnLemmas.{pair_unbuilt}
-use Rattle.repo_packages.proofs.PairLemmas.{pair_first}
+use Rattle.step_model.proofs.FaultLemmas.{at_exit, err_map, first_decides, second_decides}
+use Rattle.package_choice.specs.Choice.{bad_follow}
+use Rattle.repo_packages.specs.PackageCases.{bad_pair}
 use Rattle.repo_packages.proofs.early.pair_early.Goals as goal
 
-pub returns-then-is_following-clause-fault : goal.returns-then-is_following-clause-fault
-returns-then-is_following-clause-fault c = λ queries comes v.
-    ap (λ (k : Case). k.early) (pair_unbuilt c.args.state.now c.args.with_deps.now (plain_follow c.args.follow.now) c.args.source.now c.args.destination.now queries comes (sym c.is_following.ensures ∙ c.if-is_following.true))
+pub returns-in_err-check_follow-clause-fault : goal.returns-in_err-check_follow-clause-fault
+returns-in_err-check_follow-clause-fault c = λ v.
+    let fault = c.in_err-check_follow.field-0.0 in
+    at_exit c.from_residual.result fault _ c.from_residual.ensures.1
+    (first_decides (bad_follow (plain_follow c.args.follow.now)) (bad_pair c.args.state.now c.args.source.now c.args.destination.now) fault c.in_err-check_follow.ensures.fault)
 
 pub returns-clause-fault : goal.returns-clause-fault
-returns-clause-fault c = λ queries comes v.
+returns-clause-fault c = λ v.
     err_map c.named_pair.result _ _
-    (λ fault h. pair_first c.args.state.now c.args.with_deps.now (plain_follow c.args.follow.now) c.args.source.now c.args.destination.now queries comes (sym c.is_following.ensures ∙ c.if-is_following.false) fault h)
+    (λ fault h. second_decides (bad_follow (plain_follow c.args.follow.now)) (bad_pair c.args.state.now c.args.source.now c.args.destination.now) fault c.in_ok-check_follow.ensures.good h)
     (c.named_pair.ensures.fault v)

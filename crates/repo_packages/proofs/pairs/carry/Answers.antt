@@ -20,9 +20,9 @@ returns-clause-comes c = λ from to v there here all.
     (λ i. record (c.new.view_is i) { repos = set i })
 
 pub returns-clause-new : goal.returns-clause-new
-returns-clause-new c = λ from to queries v there here chose.
+returns-clause-new c = λ from to test v there here chose.
     let between = c.in_ok-new.ensures v.repos.sorted in
     let up = subst (λ (s : StateView). IsAscending repo_cmp s.repos) (sym (c.new.view_is ∙ between)) (listed_sorted c.args.state.now c.args.destination.now.name c.args.all v.repos.sorted) in
     let set = c.set_list.ensures up ∙ ap (λ (s : StateView). changed_in c.args.source.now.name (with_list c.in_ok-left.left) s.repos) c.new.view_is in
-    moving_new c.args.state.now from to c.args.source.now c.args.destination.now there here c.args.all c.in_ok-left.left c.args.more.now c.in_ok-new.new _ queries c.in_ok-left.ensures chose
+    moving_new c.args.state.now from to c.args.source.now c.args.destination.now there here c.args.all c.in_ok-left.left c.args.more.now c.in_ok-new.new _ test c.in_ok-left.ensures chose
     (λ none. c.if-count-eq0.false (omega (arith, none, c.len-count.ensures))) between (λ i. record (c.new.view_is i) { repos = set i })

@@ -19,7 +19,7 @@ pub returns-then-dry_run-clause-fault : goal.returns-then-dry_run-clause-fault
 returns-then-dry_run-clause-fault c = err_map c.dry_run_change.result _ _ (λ fault h. fault_memory _ fault h) c.dry_run_change.ensures.fault
 
 pub returns-then-dry_run-clause-new : goal.returns-then-dry_run-clause-new
-returns-then-dry_run-clause-new c = λ from to queries v there here chose.
+returns-then-dry_run-clause-new c = λ from to test v there here chose.
     IfOk-weaker c.dry_run_change.result _ _ (λ change e. subst (λ (k : Change). IsNew c.args.state.now k.state) (sym e) tt) c.dry_run_change.ensures.same
 
 pub returns-clause-comes : goal.returns-clause-comes
@@ -33,4 +33,4 @@ pub returns-clause-fault : goal.returns-clause-fault
 returns-clause-fault c = err_map c.carry.result _ _ (λ fault h. fault_memory _ fault h) c.carry.ensures.fault
 
 pub returns-clause-new : goal.returns-clause-new
-returns-clause-new c = λ from to queries v there here chose. c.carry.ensures.new from to queries v there here chose
+returns-clause-new c = λ from to test v there here chose. c.carry.ensures.new from to test v there here chose

@@ -1,29 +1,25 @@
-use Rattle.std.proofs.Common.{◌≡◌, ℕ, List, None, subst}
-use Rattle.step_model.specs.Names.{bad_name}
-use Rattle.step_model.proofs.FaultLemmas.{at_exit, first_decides, second_decides}
-use Rattle.snapshot_ops.specs.Cases.{taken, unknown}
-use Rattle.snapshot_ops.proofs.CaseLemmas.{taken_along, unknown_along}
+use Rattle.command_value.specs.Plain.{plain_follow}
+use Rattle.package_choice.specs.Choice.{bad_follow}
+use Rattle.step_model.proofs.FaultLemmas.{at_exit, err_map, first_decides, second_decides}
+use Rattle.snapshot_pull.proofs.PullLemmas.{both_none, on_any}
+use Rattle.snapshot_ops.specs.Cases.{bad_pair}
 use Rattle.snapshot_ops.proofs.early.filter_early.Goals as goal
 
-pub returns-in_err-free-clause-fault : goal.returns-in_err-free-clause-fault
-returns-in_err-free-clause-fault c = λ v.
-    let fault = c.in_err-free.field-0.0 in
-    let from = c.args.source.now in
-    let to = c.args.destination.now in
-    let snapshots = c.args.state.now.snapshots in
-    at_exit c.from_residual-in_err-free.result fault _ c.from_residual-in_err-free.ensures.1
-    (second_decides (bad_name from) _ fault c.in_ok-from.ensures.good
-    (second_decides (bad_name to) _ fault c.in_ok-to.ensures.good
-    (first_decides (taken snapshots to) (unknown snapshots from) fault (taken_along snapshots _ _ fault c.in_ok-to.ensures.same (c.in_err-free.ensures.fault v)))))
+pub returns-in_err-check_follow-clause-fault : goal.returns-in_err-check_follow-clause-fault
+returns-in_err-check_follow-clause-fault c = λ v.
+    let fault = c.in_err-check_follow.field-0.0 in
+    at_exit c.from_residual.result fault _ c.from_residual.ensures.1
+    (first_decides (bad_follow (plain_follow c.args.follow.now)) (bad_pair c.args.state.now c.args.source.now c.args.destination.now) fault c.in_err-check_follow.ensures.fault)
 
-pub returns-in_err-snapshot-clause-fault : goal.returns-in_err-snapshot-clause-fault
-returns-in_err-snapshot-clause-fault c = λ v.
-    let fault = c.in_err-snapshot.field-0.0 in
-    let from = c.args.source.now in
-    let to = c.args.destination.now in
-    let snapshots = c.args.state.now.snapshots in
-    let free = subst (λ (n : List ℕ). taken snapshots n ≡ None) c.in_ok-to.ensures.same (c.in_ok-free.ensures.good v) in
-    at_exit c.from_residual-in_err-snapshot.result fault _ c.from_residual-in_err-snapshot.ensures.1
-    (second_decides (bad_name from) _ fault c.in_ok-from.ensures.good
-    (second_decides (bad_name to) _ fault c.in_ok-to.ensures.good
-    (second_decides (taken snapshots to) (unknown snapshots from) fault free (unknown_along snapshots _ _ fault c.in_ok-from.ensures.same (c.in_err-snapshot.ensures.fault v)))))
+pub returns-clause-good : goal.returns-clause-good
+returns-clause-good c = λ v.
+    both_none c.named_pair.result (bad_follow (plain_follow c.args.follow.now)) (bad_pair c.args.state.now c.args.source.now c.args.destination.now) c.in_ok-check_follow.ensures.good (c.named_pair.ensures.good v)
+
+pub returns-clause-fault : goal.returns-clause-fault
+returns-clause-fault c = λ v.
+    err_map c.named_pair.result _ _
+    (λ fault h. second_decides (bad_follow (plain_follow c.args.follow.now)) (bad_pair c.args.state.now c.args.source.now c.args.destination.now) fault c.in_ok-check_follow.ensures.good h)
+    (c.named_pair.ensures.fault v)
+
+pub returns-clause-listed : goal.returns-clause-listed
+returns-clause-listed c = on_any c.named_pair.result c.in_ok-check_follow.ensures.good

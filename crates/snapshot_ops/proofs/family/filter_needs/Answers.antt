@@ -1,21 +1,22 @@
+use Rattle.command_value.specs.Plain.{plain_follow}
 use Rattle.step_model.proofs.AskingLemmas.{asking_wanted, first_told, queries_told}
 use Rattle.step_model.proofs.FaultLemmas.{at_exit, keeps_exit}
 use Rattle.snapshot_ops.specs.Cases.{bad_filter}
 use Rattle.snapshot_ops.proofs.family.filter_needs.Goals as goal
 
 pub returns-in_err-filter_early-clause-fault : goal.returns-in_err-filter_early-clause-fault
-returns-in_err-filter_early-clause-fault g c = λ v.
+returns-in_err-filter_early-clause-fault g c = λ deps v.
     let fault = c.in_err-filter_early.field-0.0 in
-    at_exit c.from_residual.result fault _ c.from_residual.ensures.1 (first_told (bad_filter c.args.state.now c.args.source.now c.args.destination.now) c.args.queries.now _ _ _ _ fault (c.in_err-filter_early.ensures.fault v))
+    at_exit c.from_residual.result fault _ c.from_residual.ensures.1 (first_told (bad_filter c.args.state.now (plain_follow c.args.follow.now) c.args.source.now c.args.destination.now) c.args.queries.now _ _ _ _ fault (c.in_err-filter_early.ensures.fault v))
 
 pub returns-in_err-prepared_all-clause-fault : goal.returns-in_err-prepared_all-clause-fault
-returns-in_err-prepared_all-clause-fault g c = λ v.
+returns-in_err-prepared_all-clause-fault g c = λ deps v.
     let fault = c.in_err-prepared_all.field-0.0 in
     at_exit c.from_residual-in_err-prepared_all.result fault _ c.from_residual-in_err-prepared_all.ensures.1
-    (queries_told (bad_filter c.args.state.now c.args.source.now c.args.destination.now) c.args.queries.now _ _ _ _ fault (c.in_ok-filter_early.ensures.good v) c.in_err-prepared_all.ensures.fault)
+    (queries_told (bad_filter c.args.state.now (plain_follow c.args.follow.now) c.args.source.now c.args.destination.now) c.args.queries.now _ _ _ _ fault (c.in_ok-filter_early.ensures.good v) c.in_err-prepared_all.ensures.fault)
 
 pub returns-in_err-prepared_all-clause-kept : goal.returns-in_err-prepared_all-clause-kept
 returns-in_err-prepared_all-clause-kept g c = keeps_exit _ _ c.from_residual-in_err-prepared_all.result c.in_err-prepared_all.field-0.0 c.from_residual-in_err-prepared_all.ensures.1 c.in_err-prepared_all.ensures.kept
 
 pub returns-clause-ok : goal.returns-clause-ok
-returns-clause-ok g c = λ v. asking_wanted (bad_filter c.args.state.now c.args.source.now c.args.destination.now) c.args.queries.now _ (c.in_ok-filter_early.ensures.good v) c.in_ok-prepared_all.ensures.good
+returns-clause-ok g c = λ deps v. asking_wanted (bad_filter c.args.state.now (plain_follow c.args.follow.now) c.args.source.now c.args.destination.now) c.args.queries.now _ (c.in_ok-filter_early.ensures.good v) c.in_ok-prepared_all.ensures.good

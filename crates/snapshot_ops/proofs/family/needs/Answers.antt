@@ -76,11 +76,11 @@ returns-in-SnapshotDrop-clause-kept g c = keeps_same _ c.drop_needs.result
 
 pub returns-in-SnapshotFilter-clause-ok : goal.returns-in-SnapshotFilter-clause-ok
 unfolding snapshot_case
-returns-in-SnapshotFilter-clause-ok g c = λ k e v. wanted_along None _ _ c.filter_plain_needs.result (case_along c.args.state.now c.args.command.now k _ e (ap plain c.in-SnapshotFilter.is ∙ ap (λ (q : List (List ℕ)). of_snapshot (snapshot_filter c.in-SnapshotFilter.with_deps (plain_follow c.in-SnapshotFilter.follow) c.in-SnapshotFilter.source c.in-SnapshotFilter.destination q)) (sym c.deref.ensures.value))) (c.filter_plain_needs.ensures.ok v)
+returns-in-SnapshotFilter-clause-ok g c = λ k e v. wanted_along None _ _ c.filter_needs.result (case_along c.args.state.now c.args.command.now k _ e (ap plain c.in-SnapshotFilter.is ∙ ap (λ (q : List (List ℕ)). of_snapshot (snapshot_filter c.in-SnapshotFilter.with_deps (plain_follow c.in-SnapshotFilter.follow) c.in-SnapshotFilter.source c.in-SnapshotFilter.destination q)) (sym c.deref.ensures.value))) (c.filter_needs.ensures.ok c.in-SnapshotFilter.with_deps v)
 
 pub returns-in-SnapshotFilter-clause-fault : goal.returns-in-SnapshotFilter-clause-fault
 unfolding snapshot_case
-returns-in-SnapshotFilter-clause-fault g c = λ k e v. told_along _ _ _ _ _ c.filter_plain_needs.result (case_along c.args.state.now c.args.command.now k _ e (ap plain c.in-SnapshotFilter.is ∙ ap (λ (q : List (List ℕ)). of_snapshot (snapshot_filter c.in-SnapshotFilter.with_deps (plain_follow c.in-SnapshotFilter.follow) c.in-SnapshotFilter.source c.in-SnapshotFilter.destination q)) (sym c.deref.ensures.value))) (c.filter_plain_needs.ensures.fault v)
+returns-in-SnapshotFilter-clause-fault g c = λ k e v. told_along _ _ _ _ _ c.filter_needs.result (case_along c.args.state.now c.args.command.now k _ e (ap plain c.in-SnapshotFilter.is ∙ ap (λ (q : List (List ℕ)). of_snapshot (snapshot_filter c.in-SnapshotFilter.with_deps (plain_follow c.in-SnapshotFilter.follow) c.in-SnapshotFilter.source c.in-SnapshotFilter.destination q)) (sym c.deref.ensures.value))) (c.filter_needs.ensures.fault c.in-SnapshotFilter.with_deps v)
 
 pub returns-in-SnapshotPull-clause-ok : goal.returns-in-SnapshotPull-clause-ok
 unfolding snapshot_case
@@ -92,11 +92,11 @@ returns-in-SnapshotPull-clause-fault g c = λ k e v. told_along _ _ _ _ _ c.pull
 
 pub returns-in-SnapshotSearch-clause-ok : goal.returns-in-SnapshotSearch-clause-ok
 unfolding snapshot_case
-returns-in-SnapshotSearch-clause-ok g c = λ k e v. wanted_along None _ _ c.search_plain_needs.result (case_along c.args.state.now c.args.command.now k _ e (ap plain c.in-SnapshotSearch.is)) (c.search_plain_needs.ensures.ok v)
+returns-in-SnapshotSearch-clause-ok g c = λ k e v. wanted_along None _ _ c.search_needs.result (case_along c.args.state.now c.args.command.now k _ e (ap plain c.in-SnapshotSearch.is)) (c.search_needs.ensures.ok c.in-SnapshotSearch.with_deps v)
 
 pub returns-in-SnapshotSearch-clause-fault : goal.returns-in-SnapshotSearch-clause-fault
 unfolding snapshot_case
-returns-in-SnapshotSearch-clause-fault g c = λ k e v. told_along _ _ _ _ _ c.search_plain_needs.result (case_along c.args.state.now c.args.command.now k _ e (ap plain c.in-SnapshotSearch.is)) (c.search_plain_needs.ensures.fault v)
+returns-in-SnapshotSearch-clause-fault g c = λ k e v. told_along _ _ _ _ _ c.search_needs.result (case_along c.args.state.now c.args.command.now k _ e (ap plain c.in-SnapshotSearch.is)) (c.search_needs.ensures.fault c.in-SnapshotSearch.with_deps v)
 
 pub returns-in-SnapshotList-clause-ok : goal.returns-in-SnapshotList-clause-ok
 returns-in-SnapshotList-clause-ok g c = λ k e v. subst (λ (q : Case). IsWanted None q readings.Nothing) (sym (case_along c.args.state.now c.args.command.now k snapshot_list e (ap plain c.in-SnapshotList.is))) (list_wanted c.args.state.now)

@@ -1,0 +1,8 @@
+pub mod ListLemmas
+pub mod NameLists
+pub mod CaseLemmas
+pub mod NewLemmas
+pub mod NameLemmas
+pub mod StateLemmas
+pub mod LawLemmas
+pub mod LawfulLemmas
