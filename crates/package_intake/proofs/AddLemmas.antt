@@ -4,6 +4,8 @@ use Rattle.std.specs.Result.{IsErr}
 use Rattle.ap_host.specs.declared.host.Op.{Op}
 use Rattle.ap_host.specs.Disk.{Path, Files, Log}
 use Rattle.stage_file.specs.Stage.{StageState}
+use Rattle.hash_pool.specs.Growth.{targets}
+use Rattle.std.specs.List.{AllByRecursion}
 use Rattle.package_core.specs.Card.{Card}
 use Rattle.package_list.specs.declared.fault.ListFault.{ListFault}
 use Rattle.package_list.specs.Lists.{union}
@@ -26,8 +28,8 @@ use Rattle.index_text.specs.Index.{ArePackages}
 use Rattle.package_intake.specs.Fits.{FitsIn, FitsWith, Fitting}
 use Rattle.package_intake.specs.Steps.{FaultGives}
 use Rattle.package_intake.specs.Faults.{FaultOfFiles, IsAnyFault, IsInputFault, IsOfFiles}
-use Rattle.package_intake.specs.Answers.{Adds, Comes, FaultOfFolder, IsArrival, IsListed, IsOfFolder, IsUnlisted}
-use Rattle.package_intake.specs.Additions.{AddsAll}
+use Rattle.package_intake.specs.Answers.{Adds, AddsNamed, AreOfIndex, Comes, FaultOfFolder, IsArrival, IsListed, IsOfFolder, IsUnlisted}
+use Rattle.package_intake.specs.Additions.{AddsAll, IsFileOf}
 use Rattle.package_intake.proofs.FitLemmas.{fits_state, own_named, taken_with}
 use Rattle.package_intake.proofs.TakenLemmas.{went_on}
 use Rattle.package_intake.proofs.LogLemmas.{all_nothing}
@@ -100,17 +102,19 @@ by_length : (all : List Card) (b : Bool) → nat_lt (limit_number Catalogue) (te
 by_length all true e g = cc
 by_length all false e g = ltb-false (limit_number Catalogue) (text_length all) e
 
+-- what keeps within the catalogue
+pub within : (all : List Card) → within_catalogue all ≡ Ok tt → (length all ≤ limit_number Known) × (text_length all ≤ limit_number Catalogue)
+within all h =
+    let on = went_on (known_answer all) (λ xs. measured (nat_lt (limit_number Catalogue) (text_length xs))) tt h in
+    let few = by_count all on.0 (nat_lt (limit_number Known) (length all)) refl on.1 in
+    (few.0, subst (λ (x : List Card). text_length x ≤ limit_number Catalogue) few.1 (by_length on.0 (nat_lt (limit_number Catalogue) (text_length on.0)) refl on.2))
+
 checks : (known own list : List Card) → check_answer known own list ≡ Ok tt → Checked known own list
 unfolding check_answer
 checks known own list h =
     let first = went_on (or_refused Packages (append_answer own list)) (λ u. within_catalogue (union known list)) tt h in
-    let second = went_on (known_answer (union known list)) (λ all. measured (nat_lt (limit_number Catalogue) (text_length all))) tt first.2 in
-    let few = by_count (union known list) second.0 (nat_lt (limit_number Known) (length (union known list))) refl second.1 in
-    record {
-      appended = fine (append_answer own list) first.1;
-      few = few.0;
-      texts = subst (λ (x : List Card). text_length x ≤ limit_number Catalogue) few.1 (by_length second.0 (nat_lt (limit_number Catalogue) (text_length second.0)) refl second.2);
-    }
+    let small = within (union known list) first.2 in
+    record { appended = fine (append_answer own list) first.1; few = small.0; texts = small.1 }
 
 -- with what is known and a list of one's own
 pub fitting_with : (known own list : List Card) → Fitting known own list → IsCatalogue known → IsNamedList known own → FitsWith known own list
@@ -124,19 +128,30 @@ fitting_fits state name own list v e f =
     fits_state state name list v (subst (λ (x : List Card). FitsWith state.known x list) e (fitting_with state.known own list f v.known named))
 
 -- ---- the log
-module _ (map : Option Files) (folder : Path) (entries : List IndexEntry) (packages : ArePackages entries) (listed : length folder ≤ 200 → (f : Files) → map ≡ Some f → IsListed f folder entries) (known : List Card) where
-  pub adds_list : (list : List Card) (date : List ℕ) (s t : StageState) (l : Log) (a : List Op) → AddsAll map (cards_of entries) known (Ok list) s t l a → Adds map folder known (Ok (arrivals.List list date)) s t l a
-  adds_list list date s t l a h = record { grows = h.grows; marked = h.marked; step = h.step; fills = h.fills; names = inr (entries, packages, listed, h.names); bodies = λ f told named all apart. h.bodies f told named apart all }
+module _ (AreNames : List Path → Type 0) (map : Option Files) (packages known : List Card) (named : (paths : List Path) → AllByRecursion (IsFileOf packages) paths → AreNames paths) where
+  pub named_list : (list : List Card) (date : List ℕ) (s t : StageState) (l : Log) (a : List Op) → AddsAll map packages known (Ok list) s t l a → AddsNamed AreNames map known (Ok (arrivals.List list date)) s t l a
+  named_list list date s t l a h = record { grows = h.grows; marked = h.marked; step = h.step; fills = h.fills; names = inr (named (targets a) h.names); bodies = λ f told apart all digests. h.bodies f told apart digests all }
 
-  pub adds_fails : (r : Result (List Card) UpdateFault) (out : Result Arrived UpdateFault) (s t : StageState) (l : Log) (a : List Op) → IsErr out → AddsAll map (cards_of entries) known r s t l a → Adds map folder known out s t l a
-  adds_fails r (Ok x) s t l a e h = absurd (let no : false ≡ true = e in cc)
-  adds_fails r (Err x) s t l a e h = record { grows = h.grows; marked = h.marked; step = h.step; fills = h.fills; names = inr (entries, packages, listed, h.names); bodies = tt }
+  pub named_fails : (r : Result (List Card) UpdateFault) (out : Result Arrived UpdateFault) (s t : StageState) (l : Log) (a : List Op) → IsErr out → AddsAll map packages known r s t l a → AddsNamed AreNames map known out s t l a
+  named_fails r (Ok x) s t l a e h = absurd (let no : false ≡ true = e in cc)
+  named_fails r (Err x) s t l a e h = record { grows = h.grows; marked = h.marked; step = h.step; fills = h.fills; names = inr (named (targets a) h.names); bodies = tt }
 
-pub adds_nothing : (map : Option Files) (folder : Path) (known : List Card) (out : Result Arrived UpdateFault) (s : StageState) (l : Log) → IsErr out → Adds map folder known out s s l []
-adds_nothing map folder known (Ok x) s l e = absurd (let no : false ≡ true = e in cc)
-adds_nothing map folder known (Err x) s l e =
+pub named_nothing : (AreNames : List Path → Type 0) (map : Option Files) (known : List Card) (out : Result Arrived UpdateFault) (s : StageState) (l : Log) → IsErr out → AddsNamed AreNames map known out s s l []
+named_nothing AreNames map known (Ok x) s l e = absurd (let no : false ≡ true = e in cc)
+named_nothing AreNames map known (Err x) s l e =
     let h = all_nothing map [] known (Err faults.OutOfMemory) s l refl in
     record { grows = h.grows; marked = h.marked; step = h.step; fills = h.fills; names = inl refl; bodies = tt }
+
+-- of a folder
+module _ (map : Option Files) (folder : Path) (entries : List IndexEntry) (packages : ArePackages entries) (listed : length folder ≤ 200 → (f : Files) → map ≡ Some f → IsListed f folder entries) (known : List Card) where
+  pub adds_list : (list : List Card) (date : List ℕ) (s t : StageState) (l : Log) (a : List Op) → AddsAll map (cards_of entries) known (Ok list) s t l a → Adds map folder known (Ok (arrivals.List list date)) s t l a
+  adds_list = named_list (AreOfIndex map folder) map (cards_of entries) known (λ paths n. (entries, packages, listed, n))
+
+  pub adds_fails : (r : Result (List Card) UpdateFault) (out : Result Arrived UpdateFault) (s t : StageState) (l : Log) (a : List Op) → IsErr out → AddsAll map (cards_of entries) known r s t l a → Adds map folder known out s t l a
+  adds_fails = named_fails (AreOfIndex map folder) map (cards_of entries) known (λ paths n. (entries, packages, listed, n))
+
+pub adds_nothing : (map : Option Files) (folder : Path) (known : List Card) (out : Result Arrived UpdateFault) (s : StageState) (l : Log) → IsErr out → Adds map folder known out s s l []
+adds_nothing map folder = named_nothing (AreOfIndex map folder) map
 
 pub of_input : (fault : UpdateFault) → IsInputFault fault → IsAnyFault fault
 of_input (faults.Refused refusal) h = h

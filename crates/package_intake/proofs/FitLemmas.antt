@@ -33,7 +33,7 @@ use Rattle.package_intake.proofs.TakenLemmas.{find_holds}
 use Rattle.package_intake.proofs.ListLemmas.{by_places, each_of, all_map, all_union, each_itself, AreEqual, ascending_alike}
 
 -- ---- what is known goes on being known
-known_more : (known list : List Card) (p : Card) → IsAscending package_cmp known → IsKnown known p → IsKnown (union known list) p
+pub known_more : (known list : List Card) (p : Card) → IsAscending package_cmp known → IsKnown known p → IsKnown (union known list) p
 known_more known list p a h = equal_of_union package_total known list p a ∙ ap (λ e. option_or e (equal_of package_cmp list p)) h
 
 known_all : (known list : List Card) (xs : List Card) → IsAscending package_cmp known → All (IsKnown known) xs → All (IsKnown (union known list)) xs
@@ -43,13 +43,13 @@ list_more : (known list own : List Card) → IsAscending package_cmp known → I
 list_more known list own a n = record { sorted = n.sorted; apart = n.apart; listed = known_all known list own a n.listed; few = n.few }
 
 -- ---- what was taken
-taken_equal : (known ps qs : List Card) → AreTakenIn known ps qs → AreEqual package_total ps qs
+pub taken_equal : (known ps qs : List Card) → AreTakenIn known ps qs → AreEqual package_total ps qs
 taken_equal known [] [] h = tt
 taken_equal known [] (q ∷ qs) h = absurd h
 taken_equal known (p ∷ ps) [] h = absurd h
 taken_equal known (p ∷ ps) (q ∷ qs) h = (h.0.same, taken_equal known ps qs h.1)
 
-taken_all : (known ps qs : List Card) (P : Card → Type 0) → ((p q : Card) → IsTakenIn known p q → P q) → AreTakenIn known ps qs → AllByRecursion P qs
+pub taken_all : (known ps qs : List Card) (P : Card → Type 0) → ((p q : Card) → IsTakenIn known p q → P q) → AreTakenIn known ps qs → AllByRecursion P qs
 taken_all known [] [] P f h = tt
 taken_all known [] (q ∷ qs) P f h = absurd h
 taken_all known (p ∷ ps) [] P f h = absurd h
@@ -58,7 +58,7 @@ taken_all known (p ∷ ps) (q ∷ qs) P f h = (f p q h.0, taken_all known ps qs 
 pub taken_ascending : (known ps qs : List Card) → AreTakenIn known ps qs → IsAscending package_cmp ps → IsAscending package_cmp qs
 taken_ascending known ps qs h a = ascending_alike package_total ps qs (taken_equal known ps qs h) a
 
-taken_known : (known ps qs : List Card) → IsAscending package_cmp known → IsAscending package_cmp qs → AreTakenIn known ps qs → AllByRecursion (IsKnown (union known qs)) qs
+pub taken_known : (known ps qs : List Card) → IsAscending package_cmp known → IsAscending package_cmp qs → AreTakenIn known ps qs → AllByRecursion (IsKnown (union known qs)) qs
 taken_known known ps qs a b h = each qs (taken_all known ps qs (λ q. (equal_of package_cmp known q ≡ Some q) ⊎ (equal_of package_cmp known q ≡ None)) (λ p q t. t.stands) h) (each_itself package_total qs b)
   where
     one : (q : Card) → (equal_of package_cmp known q ≡ Some q) ⊎ (equal_of package_cmp known q ≡ None) → equal_of package_cmp qs q ≡ Some q → IsKnown (union known qs) q
@@ -70,7 +70,7 @@ taken_known known ps qs a b h = each qs (taken_all known ps qs (λ q. (equal_of 
     each (x ∷ xs) s m = (one x s.0 m.0, each xs s.1 m.1)
 
 -- ---- the catalogue
-catalogue_more : (known ps list : List Card) → IsCatalogue known → AreTakenIn known ps list → length (union known list) ≤ limit_number Known → text_length (union known list) ≤ limit_number Catalogue → IsCatalogue (union known list)
+pub catalogue_more : (known ps list : List Card) → IsCatalogue known → AreTakenIn known ps list → length (union known list) ≤ limit_number Known → text_length (union known list) ≤ limit_number Catalogue → IsCatalogue (union known list)
 catalogue_more known ps list c t few texts = record {
   packages = by_places IsWhole (union known list) (all_union package_total IsWhole known list (each_of IsWhole known c.packages) (taken_all known ps list IsWhole (λ p q h. h.whole) t));
   sorted = union_ascending package_total known list c.sorted;

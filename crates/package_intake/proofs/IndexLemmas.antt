@@ -1,5 +1,5 @@
 -- The index of a folder, as it is read.
-use Rattle.std.proofs.Common.{◌∷◌, map, not, codes, leb-true, subst, ◌≡◌, ℕ, ◌≤◌, Bool, true, false, cond, List, [], length, take, Option, Some, None, unwrap_or, Ok, Err, refl, sym, ap, ◌∙◌, arith, le-ltb}
+use Rattle.std.proofs.Common.{◌∷◌, map, not, codes, leb-true, subst, ◌≡◌, ℕ, ◌≤◌, Bool, true, false, cond, List, [], length, take, Option, Some, None, unwrap_or, Ok, Err, refl, sym, ap, ◌∙◌, arith, le-ltb, lt-ltb, Result, ◌<◌}
 use Rattle.std.proofs.Math.Seq.{take-length}
 use Rattle.std.specs.Prelude.{nat_le}
 use Rattle.std.specs.Option.{option_map, option_or}
@@ -15,18 +15,26 @@ use Rattle.index_text.specs.Index.{AreEntries, Lists, entry_of}
 use Rattle.package_intake.specs.Index.{AreShort}
 use Rattle.ap_host.specs.Disk.{Path, Content}
 use Rattle.hash_pool.specs.Reading.{IsReadTo}
+use Rattle.machine_state.specs.declared.limit.Limit.{Limit as LimitKind}
 use Rattle.machine_state.specs.declared.limit.Limit.TheVariants.{Index}
-use Rattle.machine_state.specs.declared.refusal.Refusal.TheVariants.{Limit}
+use Rattle.machine_state.specs.declared.refusal.Refusal.{Refusal}
+use Rattle.machine_state.specs.declared.refusal.Refusal.TheVariants.{InputMismatch, Limit}
+use Rattle.std.specs.Fmt.{decimal}
+use Rattle.digest_set.specs.declared.facts.Said.{Said}
+use Rattle.digest_set.specs.declared.facts.What.TheVariants.{Size}
+use Rattle.digest_set.specs.Facts.{digests_of}
+use Rattle.digest_set.specs.Difference.{difference}
+use Rattle.hash_pool.proofs.AnswerLemmas.{other_size}
 use Rattle.machine_state.specs.Limits.{limit_number}
-use Rattle.package_intake.specs.Index.{IndexEntry, index_bytes}
+use Rattle.package_intake.specs.Index.{IndexEntry, bytes_within, or_differs, stated_bytes}
 
 -- what is there and was read to its end
-pub whole_index : (path : Path) (content : Content) (size : ℕ) (bytes : List ℕ) → Some size ≡ option_map length content → size ≤ limit_number Index → IsReadTo size content bytes → index_bytes path content ≡ Ok bytes
-whole_index path None size bytes e le r = cc
-whole_index path (Some file) size bytes e le r =
+pub whole_within : (limit : LimitKind) (path : Path) (content : Content) (size : ℕ) (bytes : List ℕ) → Some size ≡ option_map length content → size ≤ limit_number limit → IsReadTo size content bytes → bytes_within limit path content ≡ Ok bytes
+whole_within limit path None size bytes e le r = cc
+whole_within limit path (Some file) size bytes e le r =
     let n : size ≡ length file = cc in
     let all : bytes ≡ file = r ∙ ap (λ k. take k file) n ∙ take-length file in
-    ap (λ b. cond b (Err (Limit Index)) (Ok file)) (le-ltb (limit_number Index) (length file) (omega arith)) ∙ ap Ok (sym all)
+    ap (λ b. cond b (Err (Limit limit)) (Ok file)) (le-ltb (limit_number limit) (length file) (omega arith)) ∙ ap Ok (sym all)
 
 -- a file that is told has as many bytes as its length says
 pub read_full : (content : Content) (size : ℕ) (bytes : List ℕ) → Some size ≡ option_map length content → IsReadTo size content bytes → length bytes ≡ size
@@ -35,6 +43,34 @@ read_full (Some file) size bytes e r =
     let n : size ≡ length file = cc in
     let all : bytes ≡ file = r ∙ ap (λ k. take k file) n ∙ take-length file in
     ap length all ∙ sym n
+
+-- ---- an index that is read as stated
+abbrev pub sized : List ℕ → Bool → Result (List ℕ) Refusal → Result (List ℕ) Refusal
+sized bytes b next = cond b (Err (Limit Index)) next
+
+-- a stated size that is too large
+pub stated_large : (path : Path) (said : Said) (content : Content) (size : ℕ) → Some size ≡ option_map length content → limit_number Index < said.size → stated_bytes path said content ≡ Err (Limit Index)
+stated_large path said None size e lt = cc
+stated_large path said (Some file) size e lt = ap (λ b. sized file b (or_differs path file (difference said (digests_of file)))) (lt-ltb (limit_number Index) said.size lt)
+
+stated_small : (path : Path) (said : Said) (file : List ℕ) → said.size ≤ limit_number Index → stated_bytes path said (Some file) ≡ or_differs path file (difference said (digests_of file))
+stated_small path said file le = ap (λ b. sized file b (or_differs path file (difference said (digests_of file)))) (le-ltb (limit_number Index) said.size le)
+
+-- another size
+pub stated_other : (path : Path) (said : Said) (content : Content) (size : ℕ) → Some size ≡ option_map length content → said.size ≤ limit_number Index → (size ≡ said.size → ⊥) → stated_bytes path said content ≡ Err (InputMismatch path Size (decimal said.size) (decimal size))
+stated_other path said None size e le differ = cc
+stated_other path said (Some file) size e le differ =
+    let n : size ≡ length file = cc in
+    let differs = other_size said (digests_of file) (λ is. differ (n ∙ sym is)) in
+    stated_small path said file le ∙ ap (or_differs path file) differs ∙ ap (λ k. Err (InputMismatch path Size (decimal said.size) (decimal k))) (sym n)
+
+-- what was read to its end
+pub stated_read : (path : Path) (said : Said) (content : Content) (size : ℕ) (bytes : List ℕ) → Some size ≡ option_map length content → said.size ≤ limit_number Index → IsReadTo size content bytes → stated_bytes path said content ≡ or_differs path bytes (difference said (digests_of bytes))
+stated_read path said None size bytes e le r = cc
+stated_read path said (Some file) size bytes e le r =
+    let n : size ≡ length file = cc in
+    let all : bytes ≡ file = r ∙ ap (λ k. take k file) n ∙ take-length file in
+    stated_small path said file le ∙ ap (λ (b : List ℕ). or_differs path b (difference said (digests_of b))) (sym all)
 
 -- ---- the paths of an index
 both_none : {X : Type 0} (a b : Option X) → option_or a b ≡ None → (a ≡ None) × (b ≡ None)

@@ -66,18 +66,22 @@ abbrev pub AreOfIndex : Option Files → Path → List Path → Type 0
 AreOfIndex inbox folder paths =
     (entries : List IndexEntry) × ArePackages entries × (length folder ≤ 200 → ForSome inbox (λ files. IsListed files folder entries)) × AllByRecursion (IsFileOf (cards_of entries)) paths
 
--- The pool has grown by the bodies of what arrived, or of some of it where the call broke off.
-pub record Adds (inbox : Option Files) (folder : Path) (known : List Card) (result : Result Arrived UpdateFault) (old new : StageState) (l : Log) (ops : List Op) : Type 0 where
+-- The pool has grown by the bodies of what arrived, or of some of it where the call broke off, by files of such names alone.
+pub record AddsNamed (AreNames : List Path → Type 0) (inbox : Option Files) (known : List Card) (result : Result Arrived UpdateFault) (old new : StageState) (l : Log) (ops : List Op) : Type 0 where
   pub grows : PoolGrows l ops
   pub marked : IsMarked old new ops
   pub step : IsInStep old l → IsInStep new (extended ops l)
   pub fills : ForSome inbox (λ files. Fills files l (extended ops l))
-  -- what is renamed is said of the index
-  pub names : (targets ops ≡ []) ⊎ AreOfIndex inbox folder (targets ops)
+  -- what is renamed has such names
+  pub names : (targets ops ≡ []) ⊎ AreNames (targets ops)
   -- Where the pool is named by SHA-256 and has the known bodies, and no two of its files and the inbox's share a SHA-256, it has each
   -- body of the list.
   pub bodies : IfList result (λ list. ForSome inbox (λ files.
       IsNamed (live_of l) → All (HasBody (live_of l)) known → DigestsApart (live_of l) files → All (HasBody (live_of (extended ops l))) list))
+
+-- the same for a folder: what is renamed is said of its index
+abbrev pub Adds : Option Files → Path → List Card → Result Arrived UpdateFault → StageState → StageState → Log → List Op → Type 0
+Adds inbox folder known result old new l ops = AddsNamed (AreOfIndex inbox folder) inbox known result old new l ops
 
 -- What is told of a mismatch is told of the index of the folder, which ends early: its length, and the shorter one that was reached. Or
 -- it is told of the file of a package of one index, which is that of the folder if the inbox tells: a fact that is stated of it, and

@@ -13,7 +13,7 @@ use package_list::ListFault;
 use std::alloc::Global;
 
 /// The inbox hasn't this file.
-pub(crate) fn absent(alloc: Global, path: &SafePath) -> UpdateFault
+pub fn absent(alloc: Global, path: &SafePath) -> UpdateFault
     ensures { Tells result (InputAbsent path.now) }
 {
     match path.copy(alloc) {
@@ -23,7 +23,7 @@ pub(crate) fn absent(alloc: Global, path: &SafePath) -> UpdateFault
 }
 
 /// This file of the inbox isn't readable, from this line on.
-pub(crate) fn malformed(alloc: Global, path: &SafePath, line: u64) -> UpdateFault
+pub fn malformed(alloc: Global, path: &SafePath, line: u64) -> UpdateFault
     ensures { Tells result (InputMalformed path.now line) }
 {
     match path.copy(alloc) {

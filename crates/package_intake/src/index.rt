@@ -1,23 +1,25 @@
 //! An index of the inbox.
-ghost use Rattle.std.specs.Prelude.{◌≡◌, ◌+◌, ◌≤◌, length as length_of, IfOk, IfErr, IsErrOf, MatchResult, option_map};
+ghost use Rattle.std.specs.Prelude.{◌≡◌, ◌+◌, ◌≤◌, None, length as length_of, IfOk, IfErr, IsErrOf, MatchResult, option_map};
 ghost use Rattle.std.specs.Fmt.{decimal};
 ghost use Rattle.std.specs.Option.{ForSome};
 ghost use Rattle.ap_text.specs.Paths.{below_folder};
 ghost use Rattle.ap_host.specs.Calls.{CauseOf};
 ghost use Rattle.digest_set.specs.declared.facts.What.TheVariants.{Size};
+ghost use Rattle.digest_set.specs.Facts.{digests_of as facts_of_bytes};
+ghost use Rattle.digest_set.specs.Difference.{difference};
 ghost use Rattle.hash_pool.specs.Reading.{IsReadTo};
 ghost use Rattle.index_text.specs.Index.{Lists, ArePackages};
 ghost use Rattle.machine_state.specs.declared.arrived.UpdateFault.TheVariants.{HostFault, InboxFault, OutOfMemory};
 ghost use Rattle.machine_state.specs.declared.refusal.Refusal.TheVariants.{InputAbsent, InputMismatch};
-ghost use Rattle.package_intake.specs.Index.{index_bytes};
-ghost use Rattle.package_intake.specs.Index.{AreShort, IsMalformed, OfIndex};
+ghost use Rattle.package_intake.specs.Index.{bytes_within, index_bytes, or_differs, stated_bytes};
+ghost use Rattle.package_intake.specs.Index.{AreShort, IsMalformed, IsUnreadFault, OfIndex};
 ghost use Rattle.package_intake.specs.Steps.{Gives};
-ghost use Rattle.package_intake.specs.Faults.{IsInputFault, IsOwnFault, IsNoRefusal, Tells};
+ghost use Rattle.package_intake.specs.Faults.{FaultOfFile, IsInputFault, IsOwnFault, IsNoRefusal, Tells};
 
 use crate::fault::{absent, differs, malformed, of_inbox, over};
 use ap_host::{Bytes, Inbox};
 use ap_text::SafePath;
-use digest_set::{Digits, What};
+use digest_set::{Digits, Said, What, digests_of, mismatch};
 use hash_pool::read_input;
 use index_text::{IndexFault, read_packages};
 use machine_state::{Limit, UpdateFault};
@@ -75,8 +77,8 @@ fn bytes_of<I: Inbox>(
     }
 }
 
-/// The file ends before its length.
-fn ends_early(alloc: Global, path: &SafePath, said: u64, found: u64) -> UpdateFault
+/// The file has another size than is stated, in bytes.
+fn other_size(alloc: Global, path: &SafePath, said: u64, found: u64) -> UpdateFault
     ensures { Tells result (InputMismatch path.now Size (decimal said) (decimal found)) }
 {
     let Ok(said) = Digits::decimal(alloc, said) else {
@@ -88,10 +90,37 @@ fn ends_early(alloc: Global, path: &SafePath, said: u64, found: u64) -> UpdateFa
     }
 }
 
-/// The bytes of the index at this path of the inbox, whole, where it is there and has at most 134,217,728 bytes. It is read only then.
+/// The bytes of the file at this path of the inbox, whole, where it is there and has at most as many bytes as the limit allows. It is
+/// read only then.
 ///
-/// Else it is refused: `InputAbsent`, or `Limit(Index)`, or `InputMismatch` of the size where a read gives nothing before the length in
+/// Else it is refused: `InputAbsent`, or `Limit`, or `InputMismatch` of the size where a read gives nothing before the length in
 /// bytes that was told: that length, and the shorter one that was reached. `InboxFault` comes only where the inbox failed.
+pub fn read_within<I: Inbox>(
+    alloc: Global,
+    inbox: &mut I,
+    path: &SafePath,
+    limit: Limit,
+) -> Result<Bytes, UpdateFault>
+    ensures told { ForSome (I.map inbox.old) (λ f. Gives result (bytes_within limit path.now (f path.now))) }
+    ensures fault { IfErr result (IsUnreadFault limit path.now) }
+    ensures map { I.map inbox.new ≡ I.map inbox.old }
+    ensures cause { CauseOf InboxFault (I.faults inbox.old) (I.faults inbox.new) result }
+{
+    let Some(size) = length(inbox, path)? else {
+        return Err(absent(alloc, path));
+    };
+    if size > limit.number() {
+        return Err(over(limit));
+    }
+    let bytes = bytes_of(alloc, inbox, path, size)?;
+    if bytes.len() as u64 != size {
+        return Err(other_size(alloc, path, size, bytes.len() as u64));
+    }
+    Ok(bytes)
+}
+
+/// The bytes of the index at this path of the inbox, whole, where it is there and has at most 134,217,728 bytes; else it is refused as
+/// by [`read_within`].
 pub fn read_index<I: Inbox>(
     alloc: Global,
     inbox: &mut I,
@@ -103,17 +132,58 @@ pub fn read_index<I: Inbox>(
     ensures map { I.map inbox.new ≡ I.map inbox.old }
     ensures cause { CauseOf InboxFault (I.faults inbox.old) (I.faults inbox.new) result }
 {
+    read_within(alloc, inbox, path, Limit::Index)
+}
+
+/// The bytes, where they don't differ from what is stated of them.
+fn agreed(
+    alloc: Global,
+    path: &SafePath,
+    said: &Said,
+    bytes: Bytes,
+) -> Result<Bytes, UpdateFault>
+    ensures answer { Gives result (or_differs path.now bytes (difference said.now (facts_of_bytes bytes))) }
+    ensures same { IfOk result (λ read. difference said.now (facts_of_bytes read) ≡ None) }
+    ensures fault { IfErr result IsOwnFault }
+    ensures mismatch { IfErr result (FaultOfFile path.now said.now) }
+{
+    let found = digests_of(bytes.as_slice());
+    match mismatch(alloc, said, &found)? {
+        None => Ok(bytes),
+        Some((what, said, found)) => Err(differs(alloc, path, what, said, found)),
+    }
+}
+
+/// The bytes of the index at this path of the inbox, of which this is stated, whole. It is read only where it is there, the stated size
+/// is at most 134,217,728 bytes, and the index has that size.
+///
+/// Else it is refused: `InputAbsent`, or `Limit(Index)` for the stated size, or `InputMismatch` with the first of size, SHA-256, SHA-1 and
+/// MD5 that is stated and differs, where an index that ends early has the size that was reached. `InboxFault` comes only where the inbox
+/// failed.
+pub fn read_stated<I: Inbox>(
+    alloc: Global,
+    inbox: &mut I,
+    path: &SafePath,
+    said: &Said,
+) -> Result<Bytes, UpdateFault>
+    ensures told { ForSome (I.map inbox.old) (λ f. Gives result (stated_bytes path.now said.now (f path.now))) }
+    ensures same { IfOk result (λ bytes. difference said.now (facts_of_bytes bytes) ≡ None) }
+    ensures fault { IfErr result IsInputFault }
+    ensures mismatch { IfErr result (FaultOfFile path.now said.now) }
+    ensures map { I.map inbox.new ≡ I.map inbox.old }
+    ensures cause { CauseOf InboxFault (I.faults inbox.old) (I.faults inbox.new) result }
+{
     let Some(size) = length(inbox, path)? else {
         return Err(absent(alloc, path));
     };
-    if size > Limit::Index.number() {
+    if said.size > Limit::Index.number() {
         return Err(over(Limit::Index));
     }
-    let bytes = bytes_of(alloc, inbox, path, size)?;
-    if bytes.len() as u64 != size {
-        return Err(ends_early(alloc, path, size, bytes.len() as u64));
+    if size != said.size {
+        return Err(other_size(alloc, path, said.size, size));
     }
-    Ok(bytes)
+    let bytes = bytes_of(alloc, inbox, path, size)?;
+    agreed(alloc, path, said, bytes)
 }
 
 /// The packages that these bytes of an index describe, in its order, and the paths of their files below its folder, each of at most 700

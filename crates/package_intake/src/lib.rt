@@ -18,8 +18,8 @@ mod taking;
 
 pub use arrive::add;
 pub use catalogue::check_known;
-pub use fault::of_list;
-pub use index::{path_below, read_entries, read_index};
+pub use fault::{absent, malformed, of_list};
+pub use index::{path_below, read_entries, read_index, read_stated, read_within};
 pub use join::{Paths, join as join_packages, split};
 pub use laws::arrivals_fit;
-pub use taking::take_all;
+pub use taking::{take_all, take_each};

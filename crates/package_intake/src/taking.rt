@@ -1,7 +1,8 @@
 //! The files of packages are taken in, one after the other.
-ghost use Rattle.std.specs.Prelude.{◌≡◌, ◌≤◌, ℕ, List, All, length, IsSome, IfOk, IfErr};
+ghost use Rattle.std.specs.Prelude.{◌≡◌, ◌≤◌, ℕ, List, All, length, map, IsSome, IfOk, IfErr};
 ghost use Rattle.std.specs.BTreeMap.{get};
 ghost use Rattle.std.specs.Option.{ForSome};
+ghost use Rattle.std.specs.Rc.{rc_value};
 ghost use Rattle.std.specs.declared.cmp.Ordering.TheVariants.{Equal};
 ghost use Rattle.ap_text.specs.Paths.{below_folder};
 ghost use Rattle.ap_host.specs.Calls.{CauseOf};
@@ -81,7 +82,7 @@ fn take_next<H: Host, I: Inbox>(
     take_one(alloc, host, stage, inbox, known, files, &path, one.as_ref())
 }
 
-/// Takes in the files of the packages of an index, one after the other in the order of packages, each at its path below the folder. What
+/// Takes in the files of some packages, which stand in their order, one after the other, each at its path below the folder. What
 /// comes of them are the packages with the four facts of their files, whose bodies then stand in the pool. No barrier is made.
 ///
 /// A stated size has at most 268,435,456 bytes, else `Limit(File)`. Where a known package's file has the SHA-256, what is known of the
@@ -91,6 +92,37 @@ fn take_next<H: Host, I: Inbox>(
 ///
 /// Pool files that were taken in before a refusal stay. `HostFault` and `InboxFault` come only where the host or the inbox failed. It is
 /// meant for known packages that are a catalogue, and for paths of at most 1,000 bytes below the folder.
+pub fn take_each<H: Host, I: Inbox>(
+    alloc: Global,
+    host: &mut H,
+    stage: &mut Stage,
+    inbox: &mut I,
+    known: &PackageList,
+    folder: &SafePath,
+    list: &[Rc<Package>],
+    paths: &Paths,
+) -> Result<PackageList, UpdateFault>
+    requires ascending { IsAscending package_cmp (map rc_value list.now) }
+    requires paths { All (λ p. IsSome (get package_cmp paths.now p)) (map rc_value list.now) }
+    ensures told { IsCatalogue known.now → All (λ p. length (below_folder folder.now (path_at paths.now p)) ≤ 1000) (map rc_value list.now) → ForSome (I.map inbox.old) (λ f. Gives result (each_taken (λ p. taken_file f known.now (below_folder folder.now (path_at paths.now p)) p) (map rc_value list.now))) }
+    ensures taken { IfOk result (λ qs. IsCatalogue known.now → All (λ p. IsPackage p × IsSaid p.said) (map rc_value list.now) → AreTakenIn known.now (map rc_value list.now) qs) }
+    ensures fault { IfErr result IsAnyFault }
+    ensures mismatch { IfErr result (FaultOfFiles folder.now (path_at paths.now) (map rc_value list.now)) }
+    ensures log { GoesOn (H.log host.old) (H.log host.new) (AddsAll (I.map inbox.old) (map rc_value list.now) known.now result stage.old stage.new) }
+    ensures map { I.map inbox.new ≡ I.map inbox.old }
+    ensures cause { CauseOf HostFault (H.faults host.old) (H.faults host.new) result }
+    ensures input { CauseOf InboxFault (I.faults inbox.old) (I.faults inbox.new) result }
+{
+    let files = known_files(alloc, known)?;
+    let mut taken = Vec::with_capacity(alloc, list.len())?;
+    for one in list {
+        let next = take_next(alloc, host, stage, inbox, known, &files, folder, paths, one)?;
+        taken.push(next.into_shared())?;
+    }
+    Ok(PackageList::from_ascending(taken))
+}
+
+/// The same of packages that were joined.
 pub fn take_all<H: Host, I: Inbox>(
     alloc: Global,
     host: &mut H,
@@ -112,11 +144,5 @@ pub fn take_all<H: Host, I: Inbox>(
     ensures cause { CauseOf HostFault (H.faults host.old) (H.faults host.new) result }
     ensures input { CauseOf InboxFault (I.faults inbox.old) (I.faults inbox.new) result }
 {
-    let files = known_files(alloc, known)?;
-    let mut taken = Vec::with_capacity(alloc, list.len())?;
-    for one in list.as_slice() {
-        let next = take_next(alloc, host, stage, inbox, known, &files, folder, paths, one)?;
-        taken.push(next.into_shared())?;
-    }
-    Ok(PackageList::from_ascending(taken))
+    take_each(alloc, host, stage, inbox, known, folder, list.as_slice(), paths)
 }

@@ -1,29 +1,12 @@
-use Rattle.std.proofs.Common.{◌≡◌, ◌<◌, ◌≤◌, Some, length, sym, ◌∙◌, arith}
-use Rattle.std.specs.Option.{option_map}
+use Rattle.std.proofs.Common.{Result, Ok, Err}
+use Rattle.package_intake.proofs.FaultLemmas.{if_err, unread_index, unread_ends}
+use Rattle.package_intake.specs.Index.{IsUnreadFault, OfIndex}
+use Rattle.package_intake.specs.Faults.{IsInputFault}
 use Rattle.machine_state.specs.declared.limit.Limit.TheVariants.{Index}
-use Rattle.machine_state.specs.Limits.{limit_number}
-use Rattle.package_intake.proofs.IndexLemmas.{whole_index, read_full}
-use Rattle.package_intake.proofs.FaultLemmas.{ends_input, ends_early}
 use Rattle.package_intake.proofs.index.read_index.Goals as goal
 
-pub returns-then-len-size-clause-told : goal.returns-then-len-size-clause-told
-returns-then-len-size-clause-told g c f e =
-    let there : Some c.in-Some.size ≡ option_map length (f c.args.path.now) = sym c.in-Some.is ∙ c.in_ok-size.ensures.told f e in
-    let full = read_full (f c.args.path.now) c.in-Some.size c.in_ok-bytes.bytes there (c.in_ok-bytes.ensures.told f (c.in_ok-size.ensures.map ∙ e)) in
-    absurd (c.if-len-size.true (c.len.ensures ∙ full))
+pub returns-clause-fault : goal.returns-clause-fault
+returns-clause-fault g c = if_err c.read_within.result (IsUnreadFault Index c.args.path.now) IsInputFault (unread_index c.args.path.now) c.read_within.ensures.fault
 
-pub returns-clause-told : goal.returns-clause-told
-returns-clause-told g c f e =
-    let there : Some c.in-Some.size ≡ option_map length (f c.args.path.now) = sym c.in-Some.is ∙ c.in_ok-size.ensures.told f e in
-    let le : c.in-Some.size ≤ limit_number Index = omega (arith, c.if-size-number.false, c.number.ensures) in
-    whole_index c.args.path.now (f c.args.path.now) c.in-Some.size c.in_ok-bytes.bytes there le (c.in_ok-bytes.ensures.told f (c.in_ok-size.ensures.map ∙ e))
-
-pub returns-then-len-size-clause-fault : goal.returns-then-len-size-clause-fault
-returns-then-len-size-clause-fault g c =
-    let less : c.len-then-len-size.result < c.in-Some.size = omega (arith, c.if-len-size.true, c.len.ensures, c.len-then-len-size.ensures, c.in_ok-bytes.ensures.bound) in
-    ends_input c.args.path.now c.in-Some.size c.len-then-len-size.result _ less c.ends_early.ensures
-
-pub returns-then-len-size-clause-early : goal.returns-then-len-size-clause-early
-returns-then-len-size-clause-early g c =
-    let less : c.len-then-len-size.result < c.in-Some.size = omega (arith, c.if-len-size.true, c.len.ensures, c.len-then-len-size.ensures, c.in_ok-bytes.ensures.bound) in
-    ends_early c.args.path.now c.in-Some.size c.len-then-len-size.result _ less c.ends_early.ensures
+pub returns-clause-early : goal.returns-clause-early
+returns-clause-early g c = if_err c.read_within.result (IsUnreadFault Index c.args.path.now) (OfIndex c.args.path.now) (unread_ends Index c.args.path.now) c.read_within.ensures.fault

@@ -12,15 +12,15 @@ use Rattle.package_intake.specs.Additions.{AddsAll}
 use Rattle.package_intake.specs.Inside.{path_at}
 use Rattle.package_intake.specs.Taking.{AreTakenIn}
 use Rattle.package_intake.proofs.ListLemmas.{AreEqual}
-use Rattle.package_intake.proofs.taking.take_all.Given as goal
+use Rattle.package_intake.proofs.taking.take_each.Given as goal
 
 abbrev pub invariant-loop-one : goal.invariant-loop-one
 invariant-loop-one g l = record {
-  log : GoesOn (g.H.Host.log l.fn.host) (g.H.Host.log l.host) (AddsAll (g.I.Inbox.map l.fn.inbox) l.list l.known (Ok (map rc_value l.taken.items)) l.fn.stage l.stage);
+  log : GoesOn (g.H.Host.log l.fn.host) (g.H.Host.log l.host) (AddsAll (g.I.Inbox.map l.fn.inbox) (map rc_value l.list) l.known (Ok (map rc_value l.taken.items)) l.fn.stage l.stage);
   inbox_same : g.I.Inbox.map l.inbox ≡ g.I.Inbox.map l.fn.inbox;
   later : g.H.Host.faults l.fn.host ≤ g.H.Host.faults l.host;
   inbox_later : g.I.Inbox.faults l.fn.inbox ≤ g.I.Inbox.faults l.inbox;
-  are_equal : AreEqual package_total (take l.one-index (map rc_value l.one-items)) (map rc_value l.taken.items);
-  were_taken : IsCatalogue l.known → All (λ (p : Card). IsPackage p × IsSaid p.said) l.list → AreTakenIn l.known (take l.one-index (map rc_value l.one-items)) (map rc_value l.taken.items);
-  as_told : IsCatalogue l.known → All (λ (p : Card). length (below_folder l.folder (path_at l.paths p)) ≤ 1000) l.list → (f : Files) → g.I.Inbox.map l.fn.inbox ≡ Some f → each_taken (λ p. taken_file f l.known (below_folder l.folder (path_at l.paths p)) p) (take l.one-index (map rc_value l.one-items)) ≡ Ok (map rc_value l.taken.items);
+  are_equal : AreEqual package_total (take l.one-index (map rc_value l.list)) (map rc_value l.taken.items);
+  were_taken : IsCatalogue l.known → All (λ (p : Card). IsPackage p × IsSaid p.said) (map rc_value l.list) → AreTakenIn l.known (take l.one-index (map rc_value l.list)) (map rc_value l.taken.items);
+  as_told : IsCatalogue l.known → All (λ (p : Card). length (below_folder l.folder (path_at l.paths p)) ≤ 1000) (map rc_value l.list) → (f : Files) → g.I.Inbox.map l.fn.inbox ≡ Some f → each_taken (λ p. taken_file f l.known (below_folder l.folder (path_at l.paths p)) p) (take l.one-index (map rc_value l.list)) ≡ Ok (map rc_value l.taken.items);
 }
