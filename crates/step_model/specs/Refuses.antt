@@ -45,7 +45,7 @@ pub record Refuses (large : Option (List ℕ)) (case : Case) (refusal : Option R
 abbrev pub reading : Case → Reading
 reading case = if is_some (or_else case.early case.late) then Nothing else case.reads
 
--- what can be read so far: nothing of a mirror, and of folders those whose path has at most 200 bytes
+-- what can be read that is no archive of a mirror: of folders those whose path has at most 200 bytes
 abbrev pub IsReadable : Reading → Type 0
 IsReadable Nothing = Unit {0}
 IsReadable (Folder name folder) = length folder ≤ 200
