@@ -132,10 +132,6 @@ pub create_fetches : (state : StateView) (name : List ℕ) (origin : Origin) (mi
 unfolding snapshot_case
 create_fetches state name origin mirror e = ap (λ (o : Origin). snapshot_case state (snapshot_create name o)) e
 
--- two checks that find nothing
-pub both_none : (a b : Option Refusal) → a ≡ None → b ≡ None → or_else a b ≡ None
-both_none a b e f = (λ i. or_else (e i) (f i))
-
 -- four checks that find nothing
 pub all_none : (a b c d : Option Refusal) → a ≡ None → b ≡ None → c ≡ None → d ≡ None → or_else a (or_else b (or_else c d)) ≡ None
 all_none a b c d e f g h = (λ i. or_else (e i) (or_else (f i) (or_else (g i) (h i))))
