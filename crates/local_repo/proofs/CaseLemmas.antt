@@ -6,13 +6,13 @@ use Rattle.std.specs.Bool.{nat_le, if◌then◌else◌}
 use Rattle.command_value.specs.declared.command.Command.{Command}
 use Rattle.command_value.specs.declared.command.Command.TheVariants as commands
 use Rattle.command_value.specs.declared.command.Follow.{Follow}
-use Rattle.command_value.specs.Plain.{PlainCommand, RepoCommand, plain, of_repo, repo_create, repo_add, repo_list, repo_show, repo_edit, repo_remove, repo_copy, repo_move, repo_rename, repo_drop}
+use Rattle.command_value.specs.Plain.{PlainCommand, RepoCommand, plain, of_repo, repo_create, repo_add, repo_list, repo_show, repo_edit, repo_remove, repo_copy, repo_move, repo_import, repo_rename, repo_drop}
 use Rattle.machine_state.specs.declared.limit.Limit.TheVariants as limits
 use Rattle.machine_state.specs.declared.limit.Kind.TheVariants as kinds
 use Rattle.machine_state.specs.declared.change.Change.{Change}
 use Rattle.machine_state.specs.declared.change.ChangeFault.{ChangeFault}
 use Rattle.machine_state.specs.declared.refusal.Refusal.{Refusal}
-use Rattle.machine_state.specs.declared.refusal.Refusal.TheVariants.{Exists, Limit, NotBuilt}
+use Rattle.machine_state.specs.declared.refusal.Refusal.TheVariants.{Exists, Limit}
 use Rattle.machine_state.specs.declared.arrived.Arrived.{Arrived}
 use Rattle.machine_state.specs.declared.repo.Repo.{Repo}
 use Rattle.machine_state.specs.Ascending.{IsAscending, put}
@@ -29,7 +29,7 @@ use Rattle.step_model.proofs.OwnLemmas.{last_none}
 use Rattle.step_model.proofs.RefusalLemmas.{passes, reads_on}
 use Rattle.local_repo.specs.Settings.{bad_settings, bare_repo, edited}
 use Rattle.local_repo.specs.Cases.{repo_case, created, shown, taken}
-use Rattle.local_repo.specs.Verbs.{IsAdd, IsCopy, IsCreate, IsDrop, IsEdit, IsMove, IsNamed, IsRemove, IsRename, IsShow}
+use Rattle.local_repo.specs.Verbs.{IsAdd, IsCopy, IsCreate, IsDrop, IsEdit, IsImport, IsMove, IsNamed, IsRemove, IsRename, IsShow}
 
 -- ---- names
 
@@ -183,6 +183,12 @@ is_move (commands.RepoMove d w f s t q) c e is not = not d w f s t q refl
 is_move command (repo_move dry deps follow source destination queries) e is not = absurd (cc)
 is_move command c e is not = absurd is
 
+pub is_import : (command : Command) (c : RepoCommand) → plain command ≡ of_repo c → IsImport c
+    → ((dry deps : Option Bool) (follow : Follow) (mirror repo : List ℕ) (queries : Vec (List ℕ)) → command ≡ commands.RepoImport dry deps follow mirror repo queries → ⊥) → ⊥
+is_import (commands.RepoImport d w f m r q) c e is not = not d w f m r q refl
+is_import command (repo_import dry deps follow mirror repo queries) e is not = absurd (cc)
+is_import command c e is not = absurd is
+
 pub is_list : (command : Command) → plain command ≡ of_repo repo_list → (command ≡ commands.RepoList → ⊥) → ⊥
 is_list commands.RepoList e not = not refl
 is_list command e not = absurd (cc)
@@ -194,31 +200,32 @@ module _ (state : StateView) (command : Command) where
       → ((dry : Option Bool) (name : List ℕ) (queries : Vec (List ℕ)) → command ≡ commands.RepoRemove dry name queries → ⊥)
       → ((dry deps : Option Bool) (follow : Follow) (source destination : List ℕ) (queries : Vec (List ℕ)) → command ≡ commands.RepoCopy dry deps follow source destination queries → ⊥)
       → ((dry deps : Option Bool) (follow : Follow) (source destination : List ℕ) (queries : Vec (List ℕ)) → command ≡ commands.RepoMove dry deps follow source destination queries → ⊥)
+      → ((dry deps : Option Bool) (follow : Follow) (mirror repo : List ℕ) (queries : Vec (List ℕ)) → command ≡ commands.RepoImport dry deps follow mirror repo queries → ⊥)
       → IsNamed c
-  is_named (repo_add name folder) e add remove copy move = is_add command (repo_add name folder) e tt add
-  is_named (repo_remove dry name queries) e add remove copy move = is_remove command (repo_remove dry name queries) e tt remove
-  is_named (repo_copy dry deps follow source destination queries) e add remove copy move = is_copy command (repo_copy dry deps follow source destination queries) e tt copy
-  is_named (repo_move dry deps follow source destination queries) e add remove copy move = is_move command (repo_move dry deps follow source destination queries) e tt move
-  is_named c e add remove copy move = tt
+  is_named (repo_add name folder) e add remove copy move imports = is_add command (repo_add name folder) e tt add
+  is_named (repo_remove dry name queries) e add remove copy move imports = is_remove command (repo_remove dry name queries) e tt remove
+  is_named (repo_copy dry deps follow source destination queries) e add remove copy move imports = is_copy command (repo_copy dry deps follow source destination queries) e tt copy
+  is_named (repo_move dry deps follow source destination queries) e add remove copy move imports = is_move command (repo_move dry deps follow source destination queries) e tt move
+  is_named (repo_import dry deps follow mirror repo queries) e add remove copy move imports = is_import command (repo_import dry deps follow mirror repo queries) e tt imports
+  is_named c e add remove copy move imports = tt
 
-  -- each other command by names isn't built
-  pub named_early : (c : RepoCommand) → plain command ≡ of_repo c → IsNamed c
+  -- there is no other command by names
+  pub no_other : (c : RepoCommand) → plain command ≡ of_repo c → IsNamed c
       → ((comment distribution component : Option (List ℕ)) (name : List ℕ) → command ≡ commands.RepoCreate comment distribution component name → ⊥)
       → (command ≡ commands.RepoList → ⊥)
       → ((packages : Option Bool) (name : List ℕ) → command ≡ commands.RepoShow packages name → ⊥)
       → ((comment distribution component : Option (List ℕ)) (name : List ℕ) → command ≡ commands.RepoEdit comment distribution component name → ⊥)
       → ((before after : List ℕ) → command ≡ commands.RepoRename before after → ⊥)
       → ((name : List ℕ) → command ≡ commands.RepoDrop name → ⊥)
-      → (repo_case state c).early ≡ Some NotBuilt
-  unfolding repo_case
-  named_early (repo_create comment distribution component name) e is create list show edit rename drop = absurd (is_create command (repo_create comment distribution component name) e tt create)
-  named_early (repo_add name folder) e is create list show edit rename drop = absurd is
-  named_early repo_list e is create list show edit rename drop = absurd (is_list command e list)
-  named_early (repo_show packages name) e is create list show edit rename drop = absurd (is_show command (repo_show packages name) e tt show)
-  named_early (repo_edit comment distribution component name) e is create list show edit rename drop = absurd (is_edit command (repo_edit comment distribution component name) e tt edit)
-  named_early (repo_remove dry name queries) e is create list show edit rename drop = absurd is
-  named_early (repo_copy dry deps follow source destination queries) e is create list show edit rename drop = absurd is
-  named_early (repo_move dry deps follow source destination queries) e is create list show edit rename drop = absurd is
-  named_early (repo_rename before after) e is create list show edit rename drop = absurd (is_rename command (repo_rename before after) e tt rename)
-  named_early (repo_drop name) e is create list show edit rename drop = absurd (is_drop command (repo_drop name) e tt drop)
-  named_early c e is create list show edit rename drop = refl
+      → ⊥
+  no_other (repo_create comment distribution component name) e is create list show edit rename drop = absurd (is_create command (repo_create comment distribution component name) e tt create)
+  no_other (repo_add name folder) e is create list show edit rename drop = absurd is
+  no_other repo_list e is create list show edit rename drop = absurd (is_list command e list)
+  no_other (repo_show packages name) e is create list show edit rename drop = absurd (is_show command (repo_show packages name) e tt show)
+  no_other (repo_edit comment distribution component name) e is create list show edit rename drop = absurd (is_edit command (repo_edit comment distribution component name) e tt edit)
+  no_other (repo_remove dry name queries) e is create list show edit rename drop = absurd is
+  no_other (repo_copy dry deps follow source destination queries) e is create list show edit rename drop = absurd is
+  no_other (repo_move dry deps follow source destination queries) e is create list show edit rename drop = absurd is
+  no_other (repo_rename before after) e is create list show edit rename drop = absurd (is_rename command (repo_rename before after) e tt rename)
+  no_other (repo_drop name) e is create list show edit rename drop = absurd (is_drop command (repo_drop name) e tt drop)
+  no_other (repo_import dry deps follow mirror repo queries) e is create list show edit rename drop = absurd is

@@ -1,6 +1,6 @@
 -- Laws of the cases of repositories.
-use Rattle.std.proofs.Common.{◌≢◌, ℕ, List, [], Option, Some, None, Bool, false, refl, inl, inr, unwrap_or}
-use Rattle.command_value.specs.Plain.{PlainFollow, RepoCommand, repo_create, repo_add, repo_list, repo_show, repo_edit, repo_remove, repo_copy, repo_move, repo_rename, repo_drop}
+use Rattle.std.proofs.Common.{◌≢◌, ℕ, List, [], Option, Some, None, Bool, false, inl, inr, unwrap_or}
+use Rattle.command_value.specs.Plain.{PlainFollow, RepoCommand, repo_create, repo_add, repo_list, repo_show, repo_edit, repo_remove, repo_copy, repo_move, repo_import, repo_rename, repo_drop}
 use Rattle.machine_state.specs.declared.repo.Repo.{Repo}
 use Rattle.machine_state.specs.declared.arrived.Arrived.{Arrived}
 use Rattle.machine_state.specs.State.{Valid, repo_of}
@@ -11,7 +11,7 @@ use Rattle.step_model.specs.Lawful.{CommandLaw, IfChanges, IfRefuses, IsFrom, Is
 use Rattle.step_model.specs.Refuses.{IsReadable, reading}
 use Rattle.step_model.proofs.OwnLemmas.{OwnOr}
 use Rattle.step_model.proofs.StepLemmas.{from_known}
-use Rattle.repo_packages.specs.PackageCases.{KeepsTo, MayArrive, addition_case, bad_repo, copy_case, move_case, removal_case}
+use Rattle.repo_packages.specs.PackageCases.{KeepsTo, MayArrive, addition_case, bad_repo, copy_case, import_case, move_case, removal_case}
 use Rattle.repo_packages.proofs.OwnLemmas.{own_repo}
 use Rattle.repo_packages.proofs.ReadLemmas.{nothing_read}
 use Rattle.local_repo.specs.Cases.{repo_case, shown}
@@ -62,7 +62,8 @@ show_law state MayArrive name packages = record {
 module _ (add : (name folder : List ℕ) → KeepsTo (λ state. addition_case state name folder))
     (remove : (dry : Option Bool) (name : List ℕ) (queries : List (List ℕ)) → KeepsTo (λ state. removal_case state dry name queries))
     (copy : (dry deps : Option Bool) (follow : PlainFollow) (source destination : List ℕ) (queries : List (List ℕ)) → KeepsTo (λ state. copy_case state dry deps follow source destination queries))
-    (transfer : (dry deps : Option Bool) (follow : PlainFollow) (source destination : List ℕ) (queries : List (List ℕ)) → KeepsTo (λ state. move_case state dry deps follow source destination queries)) where
+    (transfer : (dry deps : Option Bool) (follow : PlainFollow) (source destination : List ℕ) (queries : List (List ℕ)) → KeepsTo (λ state. move_case state dry deps follow source destination queries))
+    (imports : (dry deps : Option Bool) (follow : PlainFollow) (mirror repo : List ℕ) (queries : List (List ℕ)) → KeepsTo (λ state. import_case state dry deps follow mirror repo queries)) where
   pub lawful : (c : RepoCommand) → CommandLaw (λ state. repo_case state c) MayArrive
   unfolding repo_case
   lawful (repo_create comment distribution component name) = inr (λ inbox state. create_law state _ comment distribution component name)
@@ -75,7 +76,7 @@ module _ (add : (name folder : List ℕ) → KeepsTo (λ state. addition_case st
   lawful (repo_remove dry name queries) = (remove dry name queries).0
   lawful (repo_copy dry deps follow source destination queries) = (copy dry deps follow source destination queries).0
   lawful (repo_move dry deps follow source destination queries) = (transfer dry deps follow source destination queries).0
-  lawful c = inl (λ state. refl)
+  lawful (repo_import dry deps follow mirror repo queries) = (imports dry deps follow mirror repo queries).0
 
   pub repo_reads : (state : StateView) (c : RepoCommand) → IsReadable (reading (repo_case state c))
   unfolding repo_case
@@ -89,4 +90,4 @@ module _ (add : (name folder : List ℕ) → KeepsTo (λ state. addition_case st
   repo_reads state (repo_move dry deps follow source destination queries) = (transfer dry deps follow source destination queries).1 state
   repo_reads state (repo_rename before after) = nothing_read _
   repo_reads state (repo_drop name) = nothing_read _
-  repo_reads state c = tt
+  repo_reads state (repo_import dry deps follow mirror repo queries) = (imports dry deps follow mirror repo queries).1 state

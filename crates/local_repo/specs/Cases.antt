@@ -1,7 +1,7 @@
 -- The commands of local repositories: what each is in a state.
 use Rattle.std.specs.Prelude.{ℕ, false, List, length, map, Option, Some, None, Bool, nat_le, unwrap_or, if◌then◌else◌}
 use Rattle.std.specs.Option.{is_some}
-use Rattle.command_value.specs.Plain.{RepoCommand, repo_create, repo_add, repo_list, repo_show, repo_edit, repo_remove, repo_copy, repo_move, repo_rename, repo_drop}
+use Rattle.command_value.specs.Plain.{RepoCommand, repo_create, repo_add, repo_list, repo_show, repo_edit, repo_remove, repo_copy, repo_move, repo_import, repo_rename, repo_drop}
 use Rattle.machine_state.specs.declared.limit.Limit.TheVariants.{Repos}
 use Rattle.machine_state.specs.declared.limit.Kind.TheVariants as kinds
 use Rattle.machine_state.specs.declared.refusal.Refusal.{Refusal}
@@ -14,9 +14,9 @@ use Rattle.machine_state.specs.Sources.{in_use, source_renamed}
 use Rattle.machine_state.specs.State.{repo_cmp, repo_name, repo_of}
 use Rattle.machine_state.specs.Values.{StateView}
 use Rattle.reply_text.specs.Replies as replies
-use Rattle.step_model.specs.Case.{Case, Came, changes, refuses, or_else, plain_case, unbuilt}
+use Rattle.step_model.specs.Case.{Case, Came, changes, refuses, or_else, plain_case}
 use Rattle.step_model.specs.Names.{bad_name}
-use Rattle.repo_packages.specs.PackageCases.{addition_case, bad_repo, changed_in, copy_case, move_case, removal_case, unknown}
+use Rattle.repo_packages.specs.PackageCases.{addition_case, bad_repo, changed_in, copy_case, import_case, move_case, removal_case, unknown}
 use Rattle.local_repo.specs.Replies as own
 use Rattle.local_repo.specs.Settings.{bad_settings, edited, bare_repo}
 
@@ -46,7 +46,7 @@ abbrev pub repo_renamed_in : StateView → List ℕ → List ℕ → StateView
 repo_renamed_in state before after =
     record state { repos = renamed repo_name called before after state.repos; publications = map (source_renamed kinds.Repo before after) state.publications }
 
--- What each command of repositories is in a state. What reads a mirror isn't built yet.
+-- What each command of repositories is in a state.
 unfoldable pub repo_case : StateView → RepoCommand → Case
 repo_case state (repo_create comment distribution component name) =
     plain_case (or_else (bad_settings comment distribution component) (or_else (bad_name name) (taken state.repos name))) (created state (edited comment distribution component (bare_repo name)))
@@ -65,4 +65,4 @@ repo_case state (repo_drop name) =
 repo_case state (repo_remove dry name queries) = removal_case state dry name queries
 repo_case state (repo_copy dry deps follow source destination queries) = copy_case state dry deps follow source destination queries
 repo_case state (repo_move dry deps follow source destination queries) = move_case state dry deps follow source destination queries
-repo_case state command = unbuilt
+repo_case state (repo_import dry deps follow mirror repo queries) = import_case state dry deps follow mirror repo queries

@@ -1,5 +1,5 @@
 -- Of which verb a command of repositories is.
-use Rattle.command_value.specs.Plain.{RepoCommand, repo_create, repo_add, repo_show, repo_edit, repo_remove, repo_copy, repo_move, repo_rename, repo_drop}
+use Rattle.command_value.specs.Plain.{RepoCommand, repo_create, repo_add, repo_show, repo_edit, repo_remove, repo_copy, repo_move, repo_import, repo_rename, repo_drop}
 
 abbrev pub IsCreate : RepoCommand → Type 0
 IsCreate (repo_create comment distribution component name) = Unit {0}
@@ -37,10 +37,15 @@ abbrev pub IsMove : RepoCommand → Type 0
 IsMove (repo_move dry deps follow source destination queries) = Unit {0}
 IsMove c = ⊥
 
+abbrev pub IsImport : RepoCommand → Type 0
+IsImport (repo_import dry deps follow mirror repo queries) = Unit {0}
+IsImport c = ⊥
+
 -- a command that reads nothing and asks no query
 abbrev pub IsNamed : RepoCommand → Type 0
 IsNamed (repo_add name folder) = ⊥
 IsNamed (repo_remove dry name queries) = ⊥
 IsNamed (repo_copy dry deps follow source destination queries) = ⊥
 IsNamed (repo_move dry deps follow source destination queries) = ⊥
+IsNamed (repo_import dry deps follow mirror repo queries) = ⊥
 IsNamed c = Unit {0}

@@ -11,12 +11,12 @@ use crate::creation::create;
 use crate::editing::edit;
 use crate::named::named_needs;
 use crate::naming::{drop, rename};
-use crate::packages::{copy, remove, taken, transfer};
+use crate::packages::{copy, import, remove, taken, transfer};
 use crate::shown::{list, show};
 use command_value::Command;
 use machine_state::{Arrived, Change, ChangeFault, Refusal, State};
 use query_eval::Patterns;
-use repo_packages::{addition_needs, pair_needs, removal_needs};
+use repo_packages::{addition_needs, import_needs, pair_needs, removal_needs};
 use std::alloc::Global;
 use step_model::Reading;
 
@@ -54,6 +54,13 @@ pub fn needs<M: Patterns>(
             queries,
             ..
         } => pair_needs(alloc, state, follow, source, destination, queries, patterns),
+        Command::RepoImport {
+            follow,
+            mirror,
+            repo,
+            queries,
+            ..
+        } => import_needs(alloc, state, follow, mirror, repo, queries, patterns),
         _ => named_needs(alloc, state, command),
     }
 }
@@ -85,6 +92,7 @@ pub fn change<M: Patterns>(
         Command::RepoRemove { .. } => remove(alloc, state, command, patterns),
         Command::RepoCopy { .. } => copy(alloc, state, command, patterns),
         Command::RepoMove { .. } => transfer(alloc, state, command, patterns),
+        Command::RepoImport { .. } => import(alloc, state, command, patterns),
         _ => Err(ChangeFault::Refused(Refusal::NotBuilt)),
     }
 }

@@ -20,5 +20,5 @@ pub use family::{change, needs};
 pub use lawful::repo_cases_are_lawful;
 pub use naming::{drop, rename};
 pub use package_intake::add;
-pub use packages::{copy, remove, taken, transfer};
+pub use packages::{copy, import, remove, taken, transfer};
 pub use shown::{list, show};

@@ -79,7 +79,7 @@ fn drop_needs(alloc: Global, state: &State, name: &Text) -> Result<Reading, Chan
     Ok(Reading::Nothing)
 }
 
-/// That a command by names and settings reads nothing in a valid state, or its first refusal. One that isn't built is refused so.
+/// That a command by names and settings reads nothing in a valid state, or its first refusal. It needs a command of those.
 pub(crate) fn named_needs(
     alloc: Global,
     state: &State,

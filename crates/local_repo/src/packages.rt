@@ -7,12 +7,14 @@ ghost use Rattle.machine_state.specs.declared.arrived.Arrived.{Arrived as Arrive
 ghost use Rattle.step_model.specs.Answers.{ChangesTo, FaultIs, IsNew, IsRefusedFor, KeepsBy, RefusedBy};
 ghost use Rattle.repo_packages.specs.PackageCases.{ArrivesFor};
 ghost use Rattle.local_repo.specs.Cases.{repo_case};
-ghost use Rattle.local_repo.specs.Verbs.{IsAdd, IsRemove, IsCopy, IsMove};
+ghost use Rattle.local_repo.specs.Verbs.{IsAdd, IsRemove, IsCopy, IsMove, IsImport};
 
 use command_value::Command;
 use machine_state::{Arrived, Change, ChangeFault, Refusal, State};
 use query_eval::Patterns;
-use repo_packages::{add_packages, copy_packages, move_packages, remove_packages};
+use repo_packages::{
+    add_packages, copy_packages, import_packages, move_packages, remove_packages,
+};
 use std::alloc::Global;
 
 /// What `repo add` changes with what arrived of its folder. It needs a command of that verb.
@@ -134,6 +136,38 @@ pub fn transfer<M: Patterns>(
             destination,
             queries,
             patterns,
+        ),
+        _ => Err(ChangeFault::Refused(Refusal::NotBuilt)),
+    }
+}
+
+/// `repo import`: the packages of what the mirror fetched last of which some query is true join the repository, as `repo copy` has it. Of a
+/// mirror that was never updated it is refused so. A dry run makes the same checks, tells which would come, and changes nothing. With
+/// `-with-deps` what they depend on of what the mirror fetched joins too. It needs a command of that verb.
+pub fn import<M: Patterns>(
+    alloc: Global,
+    state: &State,
+    command: &Command,
+    patterns: &mut M,
+) -> Result<Change, ChangeFault>
+    ensures ok { (c : RepoCommand) (arrived : ArrivedOf) → plain command.now ≡ of_repo c → IsImport c → Valid state.now → IfOk result (ChangesTo state.now (repo_case state.now c) arrived) }
+    ensures fault { (c : RepoCommand) (arrived : ArrivedOf) → plain command.now ≡ of_repo c → IsImport c → Valid state.now → IfErr result (RefusedBy M.Patterns patterns.old patterns.new (repo_case state.now c) arrived) }
+    // A state that is told is another one.
+    ensures new { Valid state.now → IfOk result (λ change. IsNew state.now change.state) }
+    ensures never_falls { M.refusals patterns.old ≤ M.refusals patterns.new }
+    // Which text was refused for its size changes only where such a pattern is told.
+    ensures kept { KeepsBy M.Patterns patterns.old patterns.new result }
+{
+    match command {
+        Command::RepoImport {
+            dry_run,
+            with_deps,
+            follow,
+            mirror,
+            repo,
+            queries,
+        } => import_packages(
+            alloc, state, dry_run, with_deps, follow, mirror, repo, queries, patterns,
         ),
         _ => Err(ChangeFault::Refused(Refusal::NotBuilt)),
     }

@@ -12,7 +12,7 @@ use Rattle.step_model.specs.Lawful.{IsFrom}
 use Rattle.step_model.specs.Refuses.{Refuses}
 use Rattle.package_intake.proofs.EntryLemmas.{listed_packages}
 use Rattle.package_intake.proofs.LawLemmas.{arrives_fit}
-use Rattle.repo_packages.proofs.PackageLaws.{add_law, copy_law, move_law, remove_law}
+use Rattle.repo_packages.proofs.PackageLaws.{add_law, copy_law, import_law, move_law, remove_law}
 use Rattle.local_repo.proofs.LawfulLemmas as repos
 use Rattle.package_intake.proofs.TotalLemmas.{some_arrives}
 use Rattle.machine_step.specs.Causes.{IsCause, IsUnbuilt}
@@ -23,10 +23,10 @@ use Rattle.machine_step.proofs.CaseLemmas.{RepoLaw, RepoReads}
 use Rattle.machine_step.proofs.LawLemmas.{valid_step, total_step, refuses_step, says_refusal, says_step, plain_step, knows_step, cause_step, unbuilt_step}
 
 repo_law : RepoLaw
-repo_law = repos.lawful (add_law (arrives_fit listed_packages)) remove_law copy_law move_law
+repo_law = repos.lawful (add_law (arrives_fit listed_packages)) remove_law copy_law move_law import_law
 
 repo_reads : RepoReads
-repo_reads = repos.repo_reads (add_law (arrives_fit listed_packages)) remove_law copy_law move_law
+repo_reads = repos.repo_reads (add_law (arrives_fit listed_packages)) remove_law copy_law move_law import_law
 
 module _ (given : Given) (large : Option (List ℕ)) (state : StateView) (c : PlainCommand) where
   pub total : (outcome : Outcome StateView Refusal) × Step given large state c outcome

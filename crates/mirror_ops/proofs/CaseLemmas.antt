@@ -20,15 +20,13 @@ use Rattle.step_model.specs.Answers.{AreBuilt, ComesTo, FaultIs, IsFirst, IsRefu
 use Rattle.step_model.proofs.AskingLemmas.{asking_comes}
 use Rattle.step_model.proofs.FaultLemmas.{fault_map}
 use Rattle.step_model.proofs.RefusalLemmas.{passes, reads_on}
-use Rattle.mirror_ops.specs.Cases.{IsCreate, IsDrop, IsRename, IsShow, mirror_case, taken, unknown}
+use Rattle.mirror_lists.specs.Mirrors.{unknown_mirror}
+use Rattle.mirror_ops.specs.Cases.{IsCreate, IsDrop, IsRename, IsShow, mirror_case, taken}
 
 -- ---- names
 
 pub taken_along : (mirrors : List MirrorView) (n m : List ℕ) (fault : ChangeFault) → n ≡ m → IsFirst (taken mirrors n) fault → IsFirst (taken mirrors m) fault
 taken_along mirrors n m fault f h = subst (λ (k : List ℕ). IsFirst (taken mirrors k) fault) f h
-
-pub unknown_along : (mirrors : List MirrorView) (n m : List ℕ) (fault : ChangeFault) → n ≡ m → IsFirst (unknown mirrors n) fault → IsFirst (unknown mirrors m) fault
-unknown_along mirrors n m fault f h = subst (λ (k : List ℕ). IsFirst (unknown mirrors k) fault) f h
 
 pub is_free : (mirrors : List MirrorView) (name : List ℕ) → taken mirrors name ≡ None → is_some (mirror_of name mirrors) ≡ false
 is_free mirrors name = by_found (is_some (mirror_of name mirrors))
@@ -37,7 +35,7 @@ is_free mirrors name = by_found (is_some (mirror_of name mirrors))
     by_found true h = cc
     by_found false h = refl
 
-pub is_there : (mirrors : List MirrorView) (name : List ℕ) → unknown mirrors name ≡ None → is_some (mirror_of name mirrors) ≡ true
+pub is_there : (mirrors : List MirrorView) (name : List ℕ) → unknown_mirror mirrors name ≡ None → is_some (mirror_of name mirrors) ≡ true
 is_there mirrors name = by_found (is_some (mirror_of name mirrors))
   where
     by_found : (b : Bool) → (if b then None else Some (Unknown kinds.Mirror name)) ≡ None → b ≡ true

@@ -12,7 +12,7 @@ use Rattle.query_grammar.proofs.Said.{query_spelled}
 use Rattle.machine_state.specs.declared.limit.Kind.TheVariants as kinds
 use Rattle.machine_state.specs.declared.limit.Limit.TheVariants as limits
 use Rattle.machine_state.specs.declared.refusal.Refusal.{Refusal}
-use Rattle.machine_state.specs.declared.refusal.Refusal.TheVariants.{BadName, Exists, Limit, Unknown}
+use Rattle.machine_state.specs.declared.refusal.Refusal.TheVariants.{BadName, Exists, Limit}
 use Rattle.machine_state.specs.declared.arrived.Arrived.{Arrived}
 use Rattle.machine_state.specs.Mirrors.{IsMirror}
 use Rattle.machine_state.specs.State.{Valid, mirror_of}
@@ -29,7 +29,9 @@ use Rattle.step_model.proofs.StepLemmas.{from_known}
 use Rattle.mirror_ops.specs.declared.names.Part.{Part}
 use Rattle.mirror_ops.specs.declared.names.Part.TheVariants.{Component, Architecture}
 use Rattle.mirror_ops.specs.Settings.{bad_among, bad_path, bad_settings, bad_text, bad_word, bare_mirror, filter_tree, filtered, fits, tree_said, written}
-use Rattle.mirror_ops.specs.Cases.{bad_mirror, created, taken, unknown, with_mirror}
+use Rattle.mirror_lists.specs.Mirrors.{unknown_mirror}
+use Rattle.mirror_lists.proofs.MirrorLemmas.{own_mirror}
+use Rattle.mirror_ops.specs.Cases.{bad_mirror, created, taken, with_mirror}
 use Rattle.mirror_ops.proofs.NameLists.{names_are, word_is}
 use Rattle.mirror_ops.proofs.StateLemmas.{valid_more}
 
@@ -71,11 +73,8 @@ own_settings architectures filter name archive distribution components =
 pub own_taken : (mirrors : List MirrorView) (name : List ℕ) → Own (taken mirrors name)
 own_taken mirrors name = own_if (is_some (mirror_of name mirrors)) (Some (Exists kinds.Mirror name)) None tt tt
 
-pub own_unknown : (mirrors : List MirrorView) (name : List ℕ) → Own (unknown mirrors name)
-own_unknown mirrors name = own_if (is_some (mirror_of name mirrors)) None (Some (Unknown kinds.Mirror name)) tt tt
-
-pub own_mirror : (state : StateView) (name : List ℕ) → Own (bad_mirror state name)
-own_mirror state name = own_else (bad_name name) (unknown state.mirrors name) (own_name name) (own_unknown state.mirrors name)
+pub own_called : (state : StateView) (name : List ℕ) → Own (bad_mirror state name)
+own_called state name = own_else (bad_name name) (unknown_mirror state.mirrors name) (own_name name) (own_mirror state.mirrors name)
 
 -- a name of the words is one
 pub name_is : (name : List ℕ) → bad_name name ≡ None → is_name name ≡ true

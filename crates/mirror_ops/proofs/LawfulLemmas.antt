@@ -13,9 +13,11 @@ use Rattle.step_model.specs.Names.{bad_name}
 use Rattle.step_model.specs.Lawful.{CommandLaw, IsLawful}
 use Rattle.step_model.specs.Refuses.{IsReadable, reading}
 use Rattle.step_model.proofs.OwnLemmas.{first_none, own_else, own_name, second_none}
+use Rattle.mirror_lists.specs.Mirrors.{unknown_mirror}
+use Rattle.mirror_lists.proofs.MirrorLemmas.{own_mirror}
 use Rattle.mirror_ops.specs.Settings.{asked, bad_settings, bare_mirror, filtered}
-use Rattle.mirror_ops.specs.Cases.{MayArrive, bad_create, bad_mirror, bad_rename, called, create_case, drop_case, mirror_case, rename_case, show_case, shown, taken, unknown}
-use Rattle.mirror_ops.proofs.LawLemmas.{Keeps, asking_law, changing, created_keeps, front_some, line_some, mirror_is, name_is, own_mirror, own_settings, own_taken, own_unknown, plain_law, telling}
+use Rattle.mirror_ops.specs.Cases.{MayArrive, bad_create, bad_mirror, bad_rename, called, create_case, drop_case, mirror_case, rename_case, show_case, shown, taken}
+use Rattle.mirror_ops.proofs.LawLemmas.{Keeps, asking_law, changing, created_keeps, front_some, line_some, mirror_is, name_is, own_called, own_settings, own_taken, plain_law, telling}
 use Rattle.mirror_ops.proofs.StateLemmas.{valid_dropped, valid_renamed}
 
 module _ (state : StateView) (May : Arrived → Type 0) where
@@ -45,8 +47,8 @@ module _ (state : StateView) (May : Arrived → Type 0) where
   shown_some mirror packages = front_some _ _ (front_some _ _ (front_some _ _ (origin_some mirror.name mirror.archive mirror.distribution)))
 
   shown_keeps : (name : List ℕ) (packages : Bool) (o : Option MirrorView) → Keeps state (bad_mirror state name) (shown state name packages o)
-  shown_keeps name packages None = record { valid = λ v e. tt; says = tt; knows = λ arrived. tt; own = own_mirror state name; told = λ arrived. inl tt }
-  shown_keeps name packages (Some mirror) = telling state (bad_mirror state name) _ (shown_some mirror packages) (own_mirror state name)
+  shown_keeps name packages None = record { valid = λ v e. tt; says = tt; knows = λ arrived. tt; own = own_called state name; told = λ arrived. inl tt }
+  shown_keeps name packages (Some mirror) = telling state (bad_mirror state name) _ (shown_some mirror packages) (own_called state name)
 
   show_law : (packages : Bool) (name : List ℕ) → IsLawful state May (show_case state packages name)
   show_law packages name = plain_law state May (bad_mirror state name) _ (shown_keeps name packages (mirror_of name state.mirrors))
@@ -63,7 +65,7 @@ module _ (state : StateView) (May : Arrived → Type 0) where
       (changing state (renamed mirror_name called before after state.mirrors) (bad_rename state before after) _
       (λ v e. valid_renamed state v before after (name_is after (first_none (bad_name after) _ (second_none (bad_name before) _ e))))
       (renamed_some before after)
-      (own_else (bad_name before) _ (own_name before) (own_else (bad_name after) _ (own_name after) (own_else (taken state.mirrors after) (unknown state.mirrors before) (own_taken state.mirrors after) (own_unknown state.mirrors before)))))
+      (own_else (bad_name before) _ (own_name before) (own_else (bad_name after) _ (own_name after) (own_else (taken state.mirrors after) (unknown_mirror state.mirrors before) (own_taken state.mirrors after) (own_mirror state.mirrors before)))))
 
   dropped_some : (name : List ℕ) → replies.mirror_dropped name ≢ []
   unfolding replies.mirror_dropped
@@ -72,7 +74,7 @@ module _ (state : StateView) (May : Arrived → Type 0) where
   drop_law : (name : List ℕ) → IsLawful state May (drop_case state name)
   drop_law name =
       plain_law state May (bad_mirror state name) _
-      (changing state (dropped mirror_name name state.mirrors) (bad_mirror state name) _ (λ v e. valid_dropped state v name) (dropped_some name) (own_mirror state name))
+      (changing state (dropped mirror_name name state.mirrors) (bad_mirror state name) _ (λ v e. valid_dropped state v name) (dropped_some name) (own_called state name))
 
 -- ---- all of them
 

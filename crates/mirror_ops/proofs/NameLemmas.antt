@@ -14,7 +14,8 @@ use Rattle.step_model.specs.Case.{changes, or_else}
 use Rattle.step_model.specs.Names.{bad_name}
 use Rattle.step_model.specs.Answers.{ComesTo, IsNew}
 use Rattle.step_model.proofs.OwnLemmas.{first_none, second_none}
-use Rattle.mirror_ops.specs.Cases.{bad_mirror, bad_rename, called, drop_case, rename_case, mirror_renamed_in, taken, unknown, without_mirror}
+use Rattle.mirror_lists.specs.Mirrors.{unknown_mirror}
+use Rattle.mirror_ops.specs.Cases.{bad_mirror, bad_rename, called, drop_case, rename_case, mirror_renamed_in, taken, without_mirror}
 use Rattle.mirror_ops.proofs.CaseLemmas.{is_free, is_there, plain_comes}
 
 -- one that is taken out, and put back with the other name
@@ -34,9 +35,9 @@ module _ (state : StateView) (from to before after : List ℕ) (first : before �
 
   pub renamed_new : IsNew state (Some new)
   renamed_new =
-      let names = second_none (bad_name to) (or_else (taken state.mirrors to) (unknown state.mirrors from)) (second_none (bad_name from) _ good) in
-      let none = is_free state.mirrors to (first_none (taken state.mirrors to) (unknown state.mirrors from) names) in
-      let was = is_there state.mirrors from (second_none (taken state.mirrors to) (unknown state.mirrors from) names) in
+      let names = second_none (bad_name to) (or_else (taken state.mirrors to) (unknown_mirror state.mirrors from)) (second_none (bad_name from) _ good) in
+      let none = is_free state.mirrors to (first_none (taken state.mirrors to) (unknown_mirror state.mirrors from) names) in
+      let was = is_there state.mirrors from (second_none (taken state.mirrors to) (unknown_mirror state.mirrors from) names) in
       let has = renamed_has mirror_name called (λ r n. refl) before after state.mirrors (ap (λ (n : List ℕ). is_some (mirror_of n state.mirrors)) first ∙ was) in
       λ same. absurd (true≢false (sym has ∙ ap (λ (s : StateView). is_some (mirror_of after s.mirrors)) (sym is ∙ same) ∙ ap (λ (n : List ℕ). is_some (mirror_of n state.mirrors)) second ∙ none))
 
@@ -49,6 +50,6 @@ module _ (state : StateView) (text name : List ℕ) (called_so : name ≡ text) 
 
   pub dropped_new : IsNew state (Some new)
   dropped_new =
-      let was = is_there state.mirrors text (second_none (bad_name text) (unknown state.mirrors text) good) in
+      let was = is_there state.mirrors text (second_none (bad_name text) (unknown_mirror state.mirrors text) good) in
       let gone = ap is_some (dropped_gone mirror_name name state.mirrors) in
       λ same. absurd (true≢false (sym was ∙ ap (λ (n : List ℕ). is_some (mirror_of n state.mirrors)) (sym called_so) ∙ ap (λ (s : StateView). is_some (mirror_of name s.mirrors)) (sym same ∙ is) ∙ gone))

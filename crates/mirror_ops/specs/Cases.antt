@@ -13,6 +13,7 @@ use Rattle.machine_state.specs.Limits.{limit_number}
 use Rattle.machine_state.specs.Named.{dropped, renamed}
 use Rattle.machine_state.specs.State.{mirror_cmp, mirror_name, mirror_of}
 use Rattle.machine_state.specs.Values.{MirrorView, StateView}
+use Rattle.mirror_lists.specs.Mirrors.{unknown_mirror}
 use Rattle.reply_text.specs.Mirrors as replies
 use Rattle.step_model.specs.declared.reading.Reading.{Reading}
 use Rattle.step_model.specs.Case.{Case, Came, changes, refuses, or_else, plain_case, asking_case, unbuilt}
@@ -25,13 +26,9 @@ use Rattle.mirror_ops.specs.Settings.{asked, bad_settings, bare_mirror, filtered
 abbrev pub taken : List MirrorView → List ℕ → Option Refusal
 taken mirrors name = if is_some (mirror_of name mirrors) then Some (Exists kinds.Mirror name) else None
 
--- no mirror has the name
-abbrev pub unknown : List MirrorView → List ℕ → Option Refusal
-unknown mirrors name = if is_some (mirror_of name mirrors) then None else Some (Unknown kinds.Mirror name)
-
 -- the text is no name, or no mirror has it
 abbrev pub bad_mirror : StateView → List ℕ → Option Refusal
-bad_mirror state name = or_else (bad_name name) (unknown state.mirrors name)
+bad_mirror state name = or_else (bad_name name) (unknown_mirror state.mirrors name)
 
 -- ---- a new mirror
 
@@ -75,7 +72,7 @@ abbrev pub mirror_renamed_in : StateView → List ℕ → List ℕ → StateView
 mirror_renamed_in state before after = record state { mirrors = renamed mirror_name called before after state.mirrors }
 
 abbrev pub bad_rename : StateView → List ℕ → List ℕ → Option Refusal
-bad_rename state before after = or_else (bad_name before) (or_else (bad_name after) (or_else (taken state.mirrors after) (unknown state.mirrors before)))
+bad_rename state before after = or_else (bad_name before) (or_else (bad_name after) (or_else (taken state.mirrors after) (unknown_mirror state.mirrors before)))
 
 abbrev pub rename_case : StateView → List ℕ → List ℕ → Case
 rename_case state before after = plain_case (bad_rename state before after) (changes (replies.mirror_renamed before after) (mirror_renamed_in state before after))

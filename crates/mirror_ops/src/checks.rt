@@ -1,11 +1,11 @@
-//! Whether mirrors are there.
-ghost use Rattle.std.specs.Prelude.{◌≡◌, IfOk, IfErr, OnOk, None, Some};
-ghost use Rattle.machine_state.specs.State.{Valid, mirror_of};
+//! Whether a name is free.
+ghost use Rattle.std.specs.Prelude.{◌≡◌, IfErr, OnOk, None};
+ghost use Rattle.machine_state.specs.State.{Valid};
 ghost use Rattle.step_model.specs.Answers.{IsFirst};
-ghost use Rattle.mirror_ops.specs.Cases.{taken, unknown};
+ghost use Rattle.mirror_ops.specs.Cases.{taken};
 
 use ap_text::Name;
-use machine_state::{ChangeFault, Kind, Mirror, Refusal, State};
+use machine_state::{ChangeFault, Kind, Refusal, State};
 use std::alloc::Global;
 
 /// No mirror has the name yet. One that is taken is refused.
@@ -16,21 +16,5 @@ pub(crate) fn free(alloc: Global, state: &State, name: &Name) -> Result<(), Chan
     match state.mirror(name) {
         None => Ok(()),
         Some(_) => Err(ChangeFault::Refused(Refusal::Exists(Kind::Mirror, name.copy(alloc)?))),
-    }
-}
-
-/// The mirror of this name. Where there is none it is unknown.
-pub(crate) fn there<'a>(
-    alloc: Global,
-    state: &'a State,
-    name: &Name,
-) -> Result<&'a Mirror, ChangeFault>
-    ensures good { Valid state.now → OnOk result (unknown state.now.mirrors name.now ≡ None) }
-    ensures fault { Valid state.now → IfErr result (IsFirst (unknown state.now.mirrors name.now)) }
-    ensures found { Valid state.now → IfOk result (λ mirror. mirror_of name.now state.now.mirrors ≡ Some mirror.now) }
-{
-    match state.mirror(name) {
-        Some(mirror) => Ok(mirror),
-        None => Err(ChangeFault::Refused(Refusal::Unknown(Kind::Mirror, name.copy(alloc)?))),
     }
 }

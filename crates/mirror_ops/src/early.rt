@@ -6,11 +6,12 @@ ghost use Rattle.step_model.specs.Answers.{IsFirst};
 ghost use Rattle.mirror_ops.specs.Cases.{bad_create, bad_mirror, bad_rename};
 ghost use Rattle.mirror_ops.specs.Settings.{bare_mirror};
 
-use crate::checks::{free, there};
+use crate::checks::free;
 use crate::settings::settings_of;
 use ap_text::Name;
 use control_stanza::Text;
 use machine_state::{ChangeFault, Mirror, State};
+use mirror_lists::mirror_there;
 use std::alloc::Global;
 use step_model::name_of;
 
@@ -53,7 +54,7 @@ pub(crate) fn named_mirror<'a>(
     ensures found { Valid state.now → IfOk result (λ mirror. mirror_of text.now state.now.mirrors ≡ Some mirror.now) }
 {
     let name = name_of(alloc, text)?;
-    there(alloc, state, &name)
+    mirror_there(alloc, state, &name)
 }
 
 /// The name that a mirror has, and the name that it is to have.
@@ -71,7 +72,7 @@ pub(crate) fn rename_early(
     let before = name_of(alloc, from)?;
     let after = name_of(alloc, to)?;
     free(alloc, state, &after)?;
-    there(alloc, state, &before)?;
+    mirror_there(alloc, state, &before)?;
     Ok((before, after))
 }
 
@@ -82,6 +83,6 @@ pub(crate) fn drop_early(alloc: Global, state: &State, text: &Text) -> Result<Na
     ensures name { IfOk result (λ name. name ≡ text.now) }
 {
     let name = name_of(alloc, text)?;
-    there(alloc, state, &name)?;
+    mirror_there(alloc, state, &name)?;
     Ok(name)
 }

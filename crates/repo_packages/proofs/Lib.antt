@@ -4,4 +4,5 @@ pub mod OwnLemmas
 pub mod ReadLemmas
 pub mod ListingLemmas
 pub mod PairLemmas
+pub mod ImportLemmas
 pub mod PackageLaws

@@ -16,9 +16,11 @@ use Rattle.reply_text.specs.Replies as replies
 use Rattle.step_model.specs.Case.{or_else}
 use Rattle.step_model.specs.Names.{bad_name}
 use Rattle.step_model.proofs.OwnLemmas.{Own, own_else, own_if, own_name}
+use Rattle.mirror_lists.specs.Mirrors.{unknown_mirror}
+use Rattle.mirror_lists.proofs.MirrorLemmas.{own_mirror}
 use Rattle.package_choice.specs.Choice.{bad_follow}
 use Rattle.package_choice.proofs.ChoiceLemmas.{own_follow}
-use Rattle.repo_packages.specs.PackageCases.{bad_pair, bad_repo, bad_transfer, unknown}
+use Rattle.repo_packages.specs.PackageCases.{bad_import, bad_pair, bad_places, bad_repo, bad_transfer, unknown}
 use Rattle.repo_packages.specs.PackageReplies as own
 
 -- ---- every reply is some bytes
@@ -63,3 +65,12 @@ own_pair state source destination =
 
 pub own_transfer : (state : StateView) (follow : PlainFollow) (source destination : List ℕ) → Own (bad_transfer state follow source destination)
 own_transfer state follow source destination = own_else (bad_follow follow) (bad_pair state source destination) (own_follow follow) (own_pair state source destination)
+
+own_places : (state : StateView) (mirror repo : List ℕ) → Own (bad_places state mirror repo)
+own_places state mirror repo =
+    own_else (bad_name mirror) (or_else (bad_name repo) (or_else (unknown_mirror state.mirrors mirror) (unknown state.repos repo))) (own_name mirror)
+    (own_else (bad_name repo) (or_else (unknown_mirror state.mirrors mirror) (unknown state.repos repo)) (own_name repo)
+    (own_else (unknown_mirror state.mirrors mirror) (unknown state.repos repo) (own_mirror state.mirrors mirror) (own_unknown state.repos repo)))
+
+pub own_import : (state : StateView) (follow : PlainFollow) (mirror repo : List ℕ) → Own (bad_import state follow mirror repo)
+own_import state follow mirror repo = own_else (bad_follow follow) (bad_places state mirror repo) (own_follow follow) (own_places state mirror repo)

@@ -11,6 +11,7 @@ use Rattle.package_list.specs.Answers.{append_answer}
 use Rattle.package_list.specs.Lists.{union, without}
 use Rattle.package_intake.specs.Steps.{or_refused}
 use Rattle.machine_state.specs.declared.limit.Limit.TheVariants.{Packages}
+use Rattle.machine_state.specs.declared.refusal.Refusal.{Refusal}
 use Rattle.machine_state.specs.declared.arrived.Arrived.{Arrived}
 use Rattle.machine_state.specs.declared.arrived.Arrived.TheVariants as arrivals
 use Rattle.machine_state.specs.Lists.{IsNamedList}
@@ -22,16 +23,18 @@ use Rattle.step_model.specs.declared.reading.Reading.TheVariants as readings
 use Rattle.step_model.specs.Case.{Came, asking_case, or_else}
 use Rattle.step_model.specs.Lawful.{CommandLaw, IfChanges, IfRefuses, IsFrom, IsLawful}
 use Rattle.step_model.specs.Names.{bad_name, bad_folder}
-use Rattle.step_model.proofs.OwnLemmas.{OwnOr, own_asking, own_else, own_folder, own_name}
+use Rattle.step_model.proofs.OwnLemmas.{Own, OwnOr, own_asking, own_else, own_folder, own_name}
 use Rattle.step_model.proofs.StepLemmas.{from_known}
 use Rattle.package_intake.specs.Answers.{IsArrival}
 use Rattle.package_intake.specs.Arrival.{Arrives, list_of}
 use Rattle.package_intake.specs.Fits.{FitsIn}
 use Rattle.package_intake.proofs.FitLemmas.{own_named}
+use Rattle.mirror_lists.specs.Mirrors.{fetched_list_of, never_updated}
+use Rattle.mirror_lists.proofs.MirrorLemmas.{fetched_list_named, own_updated}
 use Rattle.package_choice.proofs.ChoiceLemmas.{kept_for}
-use Rattle.repo_packages.specs.PackageCases.{KeepsTo, MayArrive, addition_case, bad_repo, bad_transfer, came_or, chosen_for, chosen_of, copy_case, copying, joining, listed, move_case, moving, pair_case, removal, removal_case, taken_in, unknown}
-use Rattle.repo_packages.proofs.OwnLemmas.{added_some, dry_run_some, front_some, own_repo, own_transfer, own_unknown, removed_some}
-use Rattle.repo_packages.proofs.ReadLemmas.{addition_reads, pair_read, removal_reads}
+use Rattle.repo_packages.specs.PackageCases.{KeepsTo, MayArrive, addition_case, bad_import, bad_repo, bad_transfer, came_or, chosen_for, chosen_of, copy_case, copying, import_case, imported, joining, listed, move_case, moving, pair_case, removal, removal_case, taken_in, unknown}
+use Rattle.repo_packages.proofs.OwnLemmas.{added_some, dry_run_some, front_some, own_import, own_repo, own_transfer, own_unknown, removed_some}
+use Rattle.repo_packages.proofs.ReadLemmas.{addition_reads, import_reads, pair_read, removal_reads}
 
 -- ---- what arrives
 
@@ -124,21 +127,22 @@ own_fault (list_faults.Conflict triple) arrived came = inl tt
 own_fault list_faults.Full arrived came = inl tt
 own_fault list_faults.OutOfMemory arrived came = inl tt
 
-pair_law : (state : StateView) (May : Arrived → Type 0) (deps : Option Bool) (follow : PlainFollow) (source destination : List ℕ) (queries : List (List ℕ)) (came : Came) → Joins state (list_of state destination) (chosen_for state deps follow source queries) came
-    → IsLawful state May (asking_case (bad_transfer state follow source destination) queries (joining state destination (chosen_for state deps follow source queries) came))
-pair_law state May deps follow source destination queries came j = record {
-  valid = λ v early late arrived may. by_valid v answer refl;
+-- a command of queries that makes packages join the destination, and is refused for some of this behind their patterns
+joining_law : (state : StateView) (May : Arrived → Type 0) (early late : Option Refusal) (queries : List (List ℕ)) (destination : List ℕ) (more : List Card) (came : Came) → Own early → Own late → Joins state (list_of state destination) more came
+    → IsLawful state May (record (asking_case early queries (joining state destination more came)) { late = late })
+joining_law state May early late queries destination more came first last j = record {
+  valid = λ v good fits arrived may. by_valid v answer refl;
   says = λ arrived. by_says answer;
   knows = λ arrived. by_knows arrived answer;
-  early = own_asking (bad_transfer state follow source destination) queries (joining state destination (chosen_for state deps follow source queries) came) (own_transfer state follow source destination);
-  late = tt;
+  early = own_asking early queries (joining state destination more came) first;
+  late = last;
   comes = λ arrived may. by_refuses arrived answer;
 }
   where
     answer : Result (Unit {0}) ListFault
-    answer = append_answer (list_of state destination) (chosen_for state deps follow source queries)
+    answer = append_answer (list_of state destination) more
 
-    by_valid : Valid state → (r : Result (Unit {0}) ListFault) → append_answer (list_of state destination) (chosen_for state deps follow source queries) ≡ r → IfChanges (answered r came) (λ reply new. Valid new)
+    by_valid : Valid state → (r : Result (Unit {0}) ListFault) → append_answer (list_of state destination) more ≡ r → IfChanges (answered r came) (λ reply new. Valid new)
     by_valid v (Ok u) e = j.valid v e
     by_valid v (Err fault) e = tt
 
@@ -154,20 +158,24 @@ pair_law state May deps follow source destination queries came j = record {
     by_refuses arrived (Ok u) = j.refuses arrived
     by_refuses arrived (Err fault) = own_fault fault arrived came
 
+pair_law : (state : StateView) (May : Arrived → Type 0) (deps : Option Bool) (follow : PlainFollow) (source destination : List ℕ) (queries : List (List ℕ)) (came : Came) → Joins state (list_of state destination) (chosen_for state deps follow source queries) came
+    → IsLawful state May (asking_case (bad_transfer state follow source destination) queries (joining state destination (chosen_for state deps follow source queries) came))
+pair_law state May deps follow source destination queries came j =
+    joining_law state May (bad_transfer state follow source destination) None queries destination (chosen_for state deps follow source queries) came (own_transfer state follow source destination) tt j
+
 -- what is chosen is a list by name
 chosen_named : (state : StateView) (deps : Option Bool) (follow : PlainFollow) (name : List ℕ) (queries : List (List ℕ)) → Valid state → IsNamedList state.known (chosen_for state deps follow name queries)
 chosen_named state deps follow name queries v =
     kept_for (IsNamedList state.known) (unwrap_or deps false) follow (list_of state name) queries (λ test. named_kept state.known (list_of state name) test (own_named state name v))
 
-joined_named : (state : StateView) (deps : Option Bool) (follow : PlainFollow) (source destination : List ℕ) (queries : List (List ℕ)) → Valid state → append_answer (list_of state destination) (chosen_for state deps follow source queries) ≡ Ok tt
-    → IsNamedList state.known (union (list_of state destination) (chosen_for state deps follow source queries))
-joined_named state deps follow source destination queries v e =
-    named_union state.known (list_of state destination) (chosen_for state deps follow source queries) (own_named state destination v) (chosen_named state deps follow source queries v) e
+-- and so is the destination's list with it
+joined_named : (state : StateView) (destination : List ℕ) (more : List Card) → Valid state → IsNamedList state.known more → append_answer (list_of state destination) more ≡ Ok tt → IsNamedList state.known (union (list_of state destination) more)
+joined_named state destination more v named e = named_union state.known (list_of state destination) more (own_named state destination v) named e
 
-copy_joins : (state : StateView) (deps : Option Bool) (follow : PlainFollow) (source destination : List ℕ) (queries : List (List ℕ)) (dry : Bool) → Joins state (list_of state destination) (chosen_for state deps follow source queries) (copying state dry destination (chosen_for state deps follow source queries))
-copy_joins state deps follow source destination queries true = record { valid = λ v e. v; says = dry_run_some [] _; knows = λ arrived. from_known state arrived; refuses = λ arrived. tt }
-copy_joins state deps follow source destination queries false = record {
-  valid = λ v e. valid_listed state destination (union (list_of state destination) (chosen_for state deps follow source queries)) (joined_named state deps follow source destination queries v e) v;
+copy_joins : (state : StateView) (destination : List ℕ) (more : List Card) (dry : Bool) → (Valid state → IsNamedList state.known more) → Joins state (list_of state destination) more (copying state dry destination more)
+copy_joins state destination more true named = record { valid = λ v e. v; says = dry_run_some [] _; knows = λ arrived. from_known state arrived; refuses = λ arrived. tt }
+copy_joins state destination more false named = record {
+  valid = λ v e. valid_listed state destination (union (list_of state destination) more) (joined_named state destination more v (named v) e) v;
   says = added_some destination _ _;
   knows = λ arrived. from_known state arrived;
   refuses = λ arrived. tt;
@@ -179,7 +187,7 @@ move_joins state deps follow source destination queries false = record {
   valid = λ v e.
       valid_listed (listed state destination (union (list_of state destination) (chosen_for state deps follow source queries))) source (without (list_of state source) (chosen_for state deps follow source queries))
       (named_kept state.known (list_of state source) _ (own_named state source v))
-      (valid_listed state destination (union (list_of state destination) (chosen_for state deps follow source queries)) (joined_named state deps follow source destination queries v e) v);
+      (valid_listed state destination (union (list_of state destination) (chosen_for state deps follow source queries)) (joined_named state destination (chosen_for state deps follow source queries) v (chosen_named state deps follow source queries v) e) v);
   says = front_some _ _ (added_some destination _ _);
   knows = λ arrived. from_known state arrived;
   refuses = λ arrived. tt;
@@ -189,6 +197,12 @@ pair_lawful : (deps : Option Bool) (follow : PlainFollow) (source destination : 
     → ((state : StateView) → Joins state (list_of state destination) (chosen_for state deps follow source queries) (coming state))
     → CommandLaw (λ state. pair_case state deps follow source destination queries (coming state)) MayArrive
 pair_lawful deps follow source destination queries coming j = inr (λ inbox state. pair_law state (MayArrive inbox state readings.Nothing) deps follow source destination queries (coming state) (j state))
+
+-- ---- an import
+
+imported_named : (state : StateView) (deps : Option Bool) (follow : PlainFollow) (mirror : List ℕ) (queries : List (List ℕ)) → Valid state → IsNamedList state.known (imported state deps follow mirror queries)
+imported_named state deps follow mirror queries v =
+    kept_for (IsNamedList state.known) (unwrap_or deps false) follow (fetched_list_of state mirror) queries (λ test. named_kept state.known (fetched_list_of state mirror) test (fetched_list_named state mirror v))
 
 -- ---- all of them, with what they read
 
@@ -202,7 +216,7 @@ remove_law dry name queries = (inr (λ inbox state. asking_law state _ name quer
 pub copy_law : (dry deps : Option Bool) (follow : PlainFollow) (source destination : List ℕ) (queries : List (List ℕ)) → KeepsTo (λ state. copy_case state dry deps follow source destination queries)
 unfolding copy_case
 copy_law dry deps follow source destination queries = (
-  pair_lawful deps follow source destination queries _ (λ state. copy_joins state deps follow source destination queries (unwrap_or dry false)),
+  pair_lawful deps follow source destination queries _ (λ state. copy_joins state destination (chosen_for state deps follow source queries) (unwrap_or dry false) (chosen_named state deps follow source queries)),
   λ state. pair_read state deps follow source destination queries (copying state (unwrap_or dry false) destination (chosen_for state deps follow source queries)),
 )
 
@@ -211,4 +225,12 @@ unfolding move_case
 move_law dry deps follow source destination queries = (
   pair_lawful deps follow source destination queries _ (λ state. move_joins state deps follow source destination queries (unwrap_or dry false)),
   λ state. pair_read state deps follow source destination queries (moving state (unwrap_or dry false) source destination (chosen_for state deps follow source queries)),
+)
+
+pub import_law : (dry deps : Option Bool) (follow : PlainFollow) (mirror repo : List ℕ) (queries : List (List ℕ)) → KeepsTo (λ state. import_case state dry deps follow mirror repo queries)
+unfolding import_case
+import_law dry deps follow mirror repo queries = (
+  inr (λ inbox state. joining_law state (MayArrive inbox state readings.Nothing) (bad_import state follow mirror repo) (never_updated state mirror) queries repo (imported state deps follow mirror queries) _
+  (own_import state follow mirror repo) (own_updated state mirror) (copy_joins state repo (imported state deps follow mirror queries) (unwrap_or dry false) (imported_named state deps follow mirror queries))),
+  import_reads dry deps follow mirror repo queries,
 )

@@ -12,7 +12,7 @@ use Rattle.step_model.specs.declared.reading.Reading.TheVariants as readings
 use Rattle.step_model.specs.Case.{Came, or_else}
 use Rattle.step_model.specs.Names.{bad_name, bad_folder}
 use Rattle.step_model.specs.Refuses.{IsReadable, reading}
-use Rattle.repo_packages.specs.PackageCases.{addition_case, pair_case, removal_case, unknown}
+use Rattle.repo_packages.specs.PackageCases.{addition_case, import_case, pair_case, removal_case, unknown}
 
 short_path : (path : List ℕ) → bad_folder path ≡ None → length path ≤ 200
 short_path path e = go (is_safe_path path) (nat_le (length path) 200) refl e
@@ -49,3 +49,7 @@ addition_reads name folder state = folder_read name folder (bad_name name) (unkn
 pub removal_reads : (dry : Option Bool) (name : List ℕ) (queries : List (List ℕ)) (state : StateView) → IsReadable (reading (removal_case state dry name queries))
 unfolding removal_case
 removal_reads dry name queries state = nothing_read _
+
+pub import_reads : (dry deps : Option Bool) (follow : PlainFollow) (mirror repo : List ℕ) (queries : List (List ℕ)) (state : StateView) → IsReadable (reading (import_case state dry deps follow mirror repo queries))
+unfolding import_case
+import_reads dry deps follow mirror repo queries state = nothing_read _

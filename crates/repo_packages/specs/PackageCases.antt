@@ -28,6 +28,7 @@ use Rattle.step_model.specs.Refuses.{IsReadable, reading}
 use Rattle.package_intake.specs.Answers.{IsArrival}
 use Rattle.package_intake.specs.Arrival.{list_of}
 use Rattle.package_intake.specs.Fits.{added}
+use Rattle.mirror_lists.specs.Mirrors.{fetched_list_of, never_updated, unknown_mirror}
 use Rattle.package_choice.specs.Choice.{bad_follow, chosen_with}
 use Rattle.repo_packages.specs.PackageReplies as own
 
@@ -130,6 +131,22 @@ abbrev pub pair_case : StateView → Option Bool → PlainFollow → List ℕ �
 pair_case state deps follow source destination queries came =
     asking_case (bad_transfer state follow source destination) queries (joining state destination (chosen_for state deps follow source queries) came)
 
+-- the mirror and the repository of an import are named and there
+abbrev pub bad_places : StateView → List ℕ → List ℕ → Option Refusal
+bad_places state mirror repo = or_else (bad_name mirror) (or_else (bad_name repo) (or_else (unknown_mirror state.mirrors mirror) (unknown state.repos repo)))
+
+-- the architectures that are written can be listed, and then so
+abbrev pub bad_import : StateView → PlainFollow → List ℕ → List ℕ → Option Refusal
+bad_import state follow mirror repo = or_else (bad_follow follow) (bad_places state mirror repo)
+
+-- what is chosen of what the mirror of that name fetched last, with what that needs of it where dependencies are followed
+abbrev pub imported : StateView → Option Bool → PlainFollow → List ℕ → List (List ℕ) → List Card
+imported state deps follow mirror queries = chosen_with (unwrap_or deps false) follow (fetched_list_of state mirror) queries
+
+-- what is chosen of the mirror joins the repository
+abbrev pub importing : StateView → Bool → List ℕ → List Card → Came
+importing state dry repo more = joining state repo more (copying state dry repo more)
+
 -- ---- the commands
 
 -- what `repo add` is in a state
@@ -157,6 +174,13 @@ copy_case state dry deps follow source destination queries =
 unfoldable pub move_case : StateView → Option Bool → Option Bool → PlainFollow → List ℕ → List ℕ → List (List ℕ) → Case
 move_case state dry deps follow source destination queries =
     pair_case state deps follow source destination queries (moving state (unwrap_or dry false) source destination (chosen_for state deps follow source queries))
+
+-- What `repo import` is in a state. Of a mirror that was never updated it is refused so behind its patterns.
+unfoldable pub import_case : StateView → Option Bool → Option Bool → PlainFollow → List ℕ → List ℕ → List (List ℕ) → Case
+import_case state dry deps follow mirror repo queries =
+    record (asking_case (bad_import state follow mirror repo) queries (importing state (unwrap_or dry false) repo (imported state deps follow mirror queries))) {
+      late = never_updated state mirror;
+    }
 
 -- what may arrive where this is read: of an inbox that tells its files what they hold, and of another what fits
 abbrev pub MayArrive : Option Files → StateView → Reading → Arrived → Type 0

@@ -1,16 +1,17 @@
 //! What each command on packages is refused for before its queries and before anything is read.
-ghost use Rattle.std.specs.Prelude.{◌≡◌, IfOk, IfErr, OnOk, None};
+ghost use Rattle.std.specs.Prelude.{◌≡◌, IfOk, IfErr, OnOk, None, Some};
 ghost use Rattle.command_value.specs.Plain.{plain_follow};
-ghost use Rattle.machine_state.specs.State.{Valid};
+ghost use Rattle.machine_state.specs.State.{Valid, mirror_of};
 ghost use Rattle.package_choice.specs.Choice.{bad_follow};
 ghost use Rattle.step_model.specs.Answers.{IsFirst};
-ghost use Rattle.repo_packages.specs.PackageCases.{addition_case, bad_pair, bad_transfer, Finds};
+ghost use Rattle.repo_packages.specs.PackageCases.{addition_case, bad_import, bad_pair, bad_places, bad_transfer, Finds};
 
 use crate::checks::there;
 use ap_text::{Name, SafePath};
 use command_value::Follow;
 use control_stanza::Text;
-use machine_state::{ChangeFault, Repo, State};
+use machine_state::{ChangeFault, Mirror, Repo, State};
+use mirror_lists::mirror_there;
 use package_choice::check_follow;
 use std::alloc::Global;
 use step_model::{folder_of, name_of};
@@ -69,4 +70,41 @@ pub(crate) fn pair_early<'a>(
 {
     check_follow(alloc, follow)?;
     named_pair(alloc, state, source, destination)
+}
+
+/// The mirror and the repository that the texts of an import name: both are names before one is looked for.
+fn named_places<'a>(
+    alloc: Global,
+    state: &'a State,
+    mirror: &Text,
+    repo: &Text,
+) -> Result<(&'a Mirror, &'a Repo), ChangeFault>
+    ensures good { Valid state.now → OnOk result (bad_places state.now mirror.now repo.now ≡ None) }
+    ensures fault { Valid state.now → IfErr result (IsFirst (bad_places state.now mirror.now repo.now)) }
+    ensures mirror { Valid state.now → IfOk result (λ places. mirror_of mirror.now state.now.mirrors ≡ Some places.0.now) }
+    ensures repo { Valid state.now → IfOk result (λ places. Finds state.now repo.now places.1.now) }
+{
+    let from = name_of(alloc, mirror)?;
+    let to = name_of(alloc, repo)?;
+    let source = mirror_there(alloc, state, &from)?;
+    let destination = there(alloc, state, &to)?;
+    Ok((source, destination))
+}
+
+/// The mirror and the repository of an import: the architectures that are written can be listed before a name is looked at.
+pub(crate) fn import_early<'a>(
+    alloc: Global,
+    state: &'a State,
+    follow: &Follow,
+    mirror: &Text,
+    repo: &Text,
+) -> Result<(&'a Mirror, &'a Repo), ChangeFault>
+    ensures follow { OnOk result (bad_follow (plain_follow follow.now) ≡ None) }
+    ensures good { Valid state.now → OnOk result (bad_import state.now (plain_follow follow.now) mirror.now repo.now ≡ None) }
+    ensures fault { Valid state.now → IfErr result (IsFirst (bad_import state.now (plain_follow follow.now) mirror.now repo.now)) }
+    ensures mirror { Valid state.now → IfOk result (λ places. mirror_of mirror.now state.now.mirrors ≡ Some places.0.now) }
+    ensures repo { Valid state.now → IfOk result (λ places. Finds state.now repo.now places.1.now) }
+{
+    check_follow(alloc, follow)?;
+    named_places(alloc, state, mirror, repo)
 }

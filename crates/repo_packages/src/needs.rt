@@ -5,13 +5,14 @@ ghost use Rattle.machine_state.specs.State.{Valid};
 ghost use Rattle.step_model.specs.Answers.{FaultIs, IsWanted, KeepsBy, RefusesBy};
 ghost use Rattle.step_model.specs.Case.{Came};
 ghost use Rattle.step_model.specs.Refuses.{Refuses};
-ghost use Rattle.repo_packages.specs.PackageCases.{addition_case, copy_case, move_case, pair_case, removal_case};
+ghost use Rattle.repo_packages.specs.PackageCases.{addition_case, copy_case, import_case, move_case, pair_case, removal_case};
 
 use crate::checks::named_repo;
-use crate::early::{addition_early, pair_early};
+use crate::early::{addition_early, import_early, pair_early};
 use command_value::Follow;
 use control_stanza::Text;
 use machine_state::{ChangeFault, State};
+use mirror_lists::updated_of;
 use query_eval::Patterns;
 use std::alloc::Global;
 use step_model::{Reading, prepared_all};
@@ -66,5 +67,27 @@ pub fn pair_needs<M: Patterns>(
 {
     pair_early(alloc, state, follow, source, destination)?;
     prepared_all(alloc, queries, patterns)?;
+    Ok(Reading::Nothing)
+}
+
+/// That an import reads nothing in a valid state, or its first refusal. The patterns of its queries are built, and behind them a mirror that
+/// was never updated is refused.
+pub fn import_needs<M: Patterns>(
+    alloc: Global,
+    state: &State,
+    follow: &Follow,
+    mirror: &Text,
+    repo: &Text,
+    queries: &[Text],
+    patterns: &mut M,
+) -> Result<Reading, ChangeFault>
+    ensures ok { (dry deps : Option Bool) → Valid state.now → IfOk result (IsWanted None (import_case state.now dry deps (plain_follow follow.now) mirror.now repo.now queries.now)) }
+    ensures fault { (dry deps : Option Bool) → Valid state.now → IfErr result (RefusesBy M.Patterns patterns.old patterns.new (import_case state.now dry deps (plain_follow follow.now) mirror.now repo.now queries.now)) }
+    ensures never_falls { M.refusals patterns.old ≤ M.refusals patterns.new }
+    ensures kept { KeepsBy M.Patterns patterns.old patterns.new result }
+{
+    let (from, _) = import_early(alloc, state, follow, mirror, repo)?;
+    prepared_all(alloc, queries, patterns)?;
+    updated_of(alloc, from)?;
     Ok(Reading::Nothing)
 }

@@ -71,7 +71,7 @@ fn put_in(
 }
 
 /// Copies packages into a repository, or tells in a dry run which would come.
-fn copied(
+pub(crate) fn copied(
     alloc: Global,
     state: &State,
     dry_run: bool,

@@ -23,16 +23,12 @@ use Rattle.step_model.proofs.FaultLemmas.{fault_map}
 use Rattle.step_model.proofs.RefusalLemmas.{passes, reads_on}
 pub use Rattle.step_model.proofs.OwnLemmas.{first_none, second_none}
 pub use Rattle.snapshot_pull.proofs.CaseLemmas.{asking_told, is_free, is_there, taken_along, unknown_along}
-use Rattle.snapshot_ops.specs.Cases.{copy_case, empty_case, fetched_case, never_updated, snapshot_case, unknown_mirror, unknown_repo}
+use Rattle.snapshot_ops.specs.Cases.{copy_case, empty_case, fetched_case, snapshot_case, unknown_repo}
 
 -- ---- names
 
 pub repo_along : (repos : List Repo) (n m : List ℕ) (fault : ChangeFault) → n ≡ m → IsFirst (unknown_repo repos n) fault → IsFirst (unknown_repo repos m) fault
 repo_along repos n m fault f h = subst (λ (k : List ℕ). IsFirst (unknown_repo repos k) fault) f h
-
--- what a mirror fetched, of a name that is seen otherwise
-pub fetched_along : (state : StateView) (n m : List ℕ) (fault : ChangeFault) → n ≡ m → IsFirst (or_else (unknown_mirror state.mirrors n) (never_updated state n)) fault → IsFirst (or_else (unknown_mirror state.mirrors m) (never_updated state m)) fault
-fetched_along state n m fault f h = subst (λ (k : List ℕ). IsFirst (or_else (unknown_mirror state.mirrors k) (never_updated state k)) fault) f h
 
 pub used_along : (publications : List PublicationView) (n m : List ℕ) (fault : ChangeFault) → n ≡ m → IsFirst (in_use kinds.Snapshot n publications) fault → IsFirst (in_use kinds.Snapshot m publications) fault
 used_along publications n m fault f h = subst (λ (k : List ℕ). IsFirst (in_use kinds.Snapshot k publications) fault) f h
@@ -135,10 +131,6 @@ create_copies state name origin repo e = ap (λ (o : Origin). snapshot_case stat
 pub create_fetches : (state : StateView) (name : List ℕ) (origin : Origin) (mirror : List ℕ) → origin ≡ origins.Mirror mirror → snapshot_case state (snapshot_create name origin) ≡ fetched_case state name mirror
 unfolding snapshot_case
 create_fetches state name origin mirror e = ap (λ (o : Origin). snapshot_case state (snapshot_create name o)) e
-
--- two checks that find nothing
-pub both_none : (a b : Option Refusal) → a ≡ None → b ≡ None → or_else a b ≡ None
-both_none a b e f = (λ i. or_else (e i) (f i))
 
 -- four checks that find nothing
 pub all_none : (a b c d : Option Refusal) → a ≡ None → b ≡ None → c ≡ None → d ≡ None → or_else a (or_else b (or_else c d)) ≡ None

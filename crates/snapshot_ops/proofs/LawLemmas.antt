@@ -1,5 +1,5 @@
 -- What the cases of snapshots keep to.
-use Rattle.std.proofs.Common.{◌≡◌, ◌≢◌, ℕ, List, [], ◌∷◌, length, map, Option, Some, None, IfSome, true, Result, Ok, Err, refl, subst, inl}
+use Rattle.std.proofs.Common.{◌≡◌, ◌≢◌, ℕ, List, [], ◌∷◌, length, map, Option, Some, None, true, Result, Ok, Err, refl, subst, inl}
 use Rattle.std.specs.List.{AllByRecursion}
 use Rattle.std.specs.Option.{is_some}
 use Rattle.ap_text.specs.Names.{is_name}
@@ -9,20 +9,19 @@ use Rattle.package_list.specs.declared.fault.ListFault.TheVariants as faults
 use Rattle.machine_state.specs.declared.limit.Kind.TheVariants as kinds
 use Rattle.machine_state.specs.declared.limit.Limit.TheVariants as limits
 use Rattle.machine_state.specs.declared.refusal.Refusal.{Refusal}
-use Rattle.machine_state.specs.declared.refusal.Refusal.TheVariants.{BadName, Conflict, Exists, InUse, Limit, NotUpdated, Unknown}
-use Rattle.machine_state.specs.declared.fetched.Fetched.{Fetched}
+use Rattle.machine_state.specs.declared.refusal.Refusal.TheVariants.{BadName, Conflict, Exists, InUse, Limit, Unknown}
 use Rattle.machine_state.specs.declared.limit.Kind.{Kind}
 use Rattle.machine_state.specs.declared.repo.Repo.{Repo}
 use Rattle.machine_state.specs.declared.snapshot.Snapshot.{Snapshot}
 use Rattle.machine_state.specs.Lists.{IsNamedList}
-use Rattle.machine_state.specs.State.{Valid, mirror_name, mirror_of, repo_name, repo_of, snapshot_name, snapshot_of}
-use Rattle.machine_state.specs.Values.{MirrorView, PublicationView, StateView}
+use Rattle.machine_state.specs.State.{Valid, repo_name, repo_of, snapshot_name, snapshot_of}
+use Rattle.machine_state.specs.Values.{PublicationView, StateView}
 use Rattle.machine_state.specs.Named.{named}
 use Rattle.machine_state.specs.Sources.{in_use, uses}
 use Rattle.machine_state.proofs.ListLemmas.{named_none}
 use Rattle.step_model.specs.Names.{bad_name}
 use Rattle.step_model.specs.Lawful.{IfChanges, IfRefuses, IsFrom, IsLawful, IsOwn}
-use Rattle.snapshot_ops.specs.Cases.{bad_among, bad_snapshot, created, created_from, fetched_in, fetched_list_in, fetched_list_of, fetched_of, list_in, list_of, never_updated, repo_list_in, repo_list_of, snapshot_from, taken, unknown, unknown_among, unknown_mirror, unknown_repo, with_snapshot}
+use Rattle.snapshot_ops.specs.Cases.{bad_among, bad_snapshot, created, created_from, list_in, list_of, repo_list_in, repo_list_of, snapshot_from, taken, unknown, unknown_among, unknown_repo, with_snapshot}
 use Rattle.step_model.proofs.AskingLemmas.{own_queries}
 use Rattle.step_model.proofs.StepLemmas.{from_known}
 use Rattle.snapshot_ops.specs.Merges.{join_answer, joined_so, merge_behind, or_refused, where_joined}
@@ -37,12 +36,6 @@ created_some name packages = line_some _
 
 pub own_repo : (repos : List Repo) (name : List ℕ) → Own (unknown_repo repos name)
 own_repo repos name = own_if (is_some (repo_of name repos)) None (Some (Unknown kinds.Repo name)) tt tt
-
-pub own_mirror : (mirrors : List MirrorView) (name : List ℕ) → Own (unknown_mirror mirrors name)
-own_mirror mirrors name = own_if (is_some (mirror_of name mirrors)) None (Some (Unknown kinds.Mirror name)) tt tt
-
-pub own_updated : (state : StateView) (name : List ℕ) → Own (never_updated state name)
-own_updated state name = own_if (is_some (fetched_of state name)) None (Some (NotUpdated name)) tt tt
 
 pub own_snapshot : (state : StateView) (name : List ℕ) → Own (bad_snapshot state name)
 own_snapshot state name = own_else (bad_name name) (unknown state.snapshots name) (own_name name) (own_unknown state.snapshots name)
@@ -74,17 +67,6 @@ repo_list_named state name v = by_found (repo_of name state.repos) refl
     by_found : (o : Option Repo) → repo_of name state.repos ≡ o → IsNamedList state.known (repo_list_in o)
     by_found None e = named_none state.known
     by_found (Some r) e = named_holds repo_name (λ (r : Repo). IsNamedList state.known r.list) name state.repos r v.repos.lists e
-
-pub fetched_list_named : (state : StateView) (name : List ℕ) → Valid state → IsNamedList state.known (fetched_list_of state name)
-fetched_list_named state name v = by_found (mirror_of name state.mirrors) refl
-  where
-    by_fetched : (o : Option Fetched) → IfSome o (λ (f : Fetched). IsNamedList state.known f.list) → IsNamedList state.known (fetched_list_in o)
-    by_fetched None h = named_none state.known
-    by_fetched (Some f) h = h
-
-    by_found : (o : Option MirrorView) → mirror_of name state.mirrors ≡ o → IsNamedList state.known (fetched_list_in (fetched_in o))
-    by_found None e = named_none state.known
-    by_found (Some m) e = by_fetched m.updated (named_holds mirror_name (λ (m : MirrorView). IfSome m.updated (λ (f : Fetched). IsNamedList state.known f.list)) name state.mirrors m v.mirrors.lists e)
 
 pub lists_named : (state : StateView) (names : List (List ℕ)) → Valid state → AllByRecursion (IsNamedList state.known) (map (list_of state) names)
 lists_named state [] v = tt

@@ -21,14 +21,16 @@ use Rattle.step_model.specs.Case.{changes, plain_case}
 use Rattle.step_model.specs.Names.{bad_name}
 use Rattle.step_model.specs.Lawful.{CommandLaw, IsLawful}
 use Rattle.step_model.specs.Refuses.{IsReadable, reading}
-use Rattle.snapshot_ops.specs.Cases.{MayArrive, bad_among, bad_copy, bad_drop, bad_empty, bad_fetched, bad_filter, bad_merge, bad_pair, bad_rename, bad_search, bad_snapshot, chosen_for, copy_case, drop_case, empty_case, fetched_case, fetched_list_of, filter_case, list_of, merge_case, never_updated, rename_case, repo_list_of, search_case, show_case, shown, snapshot_case, snapshot_renamed_in, taken, unknown, unknown_among, unknown_mirror, unknown_repo, without_snapshot}
+use Rattle.mirror_lists.specs.Mirrors.{fetched_list_of, never_updated, unknown_mirror}
+use Rattle.mirror_lists.proofs.MirrorLemmas.{fetched_list_named, own_mirror, own_updated}
+use Rattle.snapshot_ops.specs.Cases.{MayArrive, bad_among, bad_copy, bad_drop, bad_empty, bad_fetched, bad_filter, bad_merge, bad_pair, bad_rename, bad_search, bad_snapshot, chosen_for, copy_case, drop_case, empty_case, fetched_case, filter_case, list_of, merge_case, rename_case, repo_list_of, search_case, show_case, shown, snapshot_case, snapshot_renamed_in, taken, unknown, unknown_among, unknown_repo, without_snapshot}
 use Rattle.snapshot_pull.specs.Pulls.{flags_of}
 use Rattle.snapshot_pull.proofs.LawfulLemmas.{pull_lawful, pull_reads}
 use Rattle.snapshot_ops.specs.Merges.{merge_of, way_of}
 use Rattle.snapshot_ops.specs.Replies as own
 use Rattle.snapshot_ops.proofs.CaseLemmas.{first_none, second_none}
 use Rattle.snapshot_ops.proofs.JoinLemmas.{named_behind}
-use Rattle.snapshot_ops.proofs.LawLemmas.{Keeps, Own, asking_law, changing, created_keeps, fetched_list_named, front_some, line_some, list_named, lists_named, made_keeps, merge_own, name_is, own_bad, own_else, own_mirror, own_missing, own_name, own_repo, own_snapshot, own_taken, own_unknown, own_updated, own_used, plain_law, repo_list_named, telling}
+use Rattle.snapshot_ops.proofs.LawLemmas.{Keeps, Own, asking_law, changing, created_keeps, front_some, line_some, list_named, lists_named, made_keeps, merge_own, name_is, own_bad, own_else, own_missing, own_name, own_repo, own_snapshot, own_taken, own_unknown, own_used, plain_law, repo_list_named, telling}
 use Rattle.snapshot_ops.proofs.StateLemmas.{valid_dropped, valid_renamed}
 
 module _ (state : StateView) (May : Arrived → Type 0) where

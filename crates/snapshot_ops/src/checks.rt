@@ -1,15 +1,14 @@
 //! Whether snapshots are there, and whether one is in use.
 ghost use Rattle.std.specs.Prelude.{◌≡◌, IfOk, IfErr, OnOk, None, Some};
 ghost use Rattle.machine_state.specs.Sources.{in_use as use_of};
-ghost use Rattle.machine_state.specs.State.{Valid, mirror_of, repo_of};
+ghost use Rattle.machine_state.specs.State.{Valid, repo_of};
 ghost use Rattle.machine_state.specs.declared.limit.Kind.TheVariants as kinds;
 ghost use Rattle.step_model.specs.Answers.{IsFirst};
-ghost use Rattle.snapshot_ops.specs.Cases.{bad_among, fetched_of, never_in, never_updated, unknown_among, unknown_mirror, unknown_repo};
-ghost use Rattle.step_model.specs.Case.{or_else};
+ghost use Rattle.snapshot_ops.specs.Cases.{bad_among, unknown_among, unknown_repo};
 
 use ap_text::Name;
 use control_stanza::Text;
-use machine_state::{ChangeFault, Fetched, Kind, Mirror, Refusal, Repo, State, in_use};
+use machine_state::{ChangeFault, Kind, Refusal, Repo, State, in_use};
 use snapshot_pull::there;
 use std::alloc::Global;
 use step_model::name_of;
@@ -52,48 +51,6 @@ pub(crate) fn repo_there<'a>(
         Some(repo) => Ok(repo),
         None => Err(ChangeFault::Refused(Refusal::Unknown(Kind::Repo, name.copy(alloc)?))),
     }
-}
-
-/// The mirror of this name. Where there is none it is unknown.
-fn mirror_there<'a>(alloc: Global, state: &'a State, name: &Name) -> Result<&'a Mirror, ChangeFault>
-    ensures good { Valid state.now → OnOk result (unknown_mirror state.now.mirrors name.now ≡ None) }
-    ensures fault { Valid state.now → IfErr result (IsFirst (unknown_mirror state.now.mirrors name.now)) }
-    ensures found { Valid state.now → IfOk result (λ mirror. mirror_of name.now state.now.mirrors ≡ Some mirror.now) }
-{
-    match state.mirror(name) {
-        Some(mirror) => Ok(mirror),
-        None => Err(ChangeFault::Refused(Refusal::Unknown(Kind::Mirror, name.copy(alloc)?))),
-    }
-}
-
-/// What a mirror of this name fetched last. One that was never updated is refused so.
-fn updated_of<'a>(
-    alloc: Global,
-    mirror: &'a Mirror,
-    name: &Name,
-) -> Result<&'a Fetched, ChangeFault>
-    ensures good { OnOk result (never_in mirror.now.updated name.now ≡ None) }
-    ensures fault { IfErr result (IsFirst (never_in mirror.now.updated name.now)) }
-    ensures found { IfOk result (λ fetched. mirror.now.updated ≡ Some fetched.now) }
-{
-    match &mirror.updated {
-        Some(fetched) => Ok(fetched),
-        None => Err(ChangeFault::Refused(Refusal::NotUpdated(name.copy(alloc)?))),
-    }
-}
-
-/// What the mirror of this name fetched last. Where there is no such mirror it is unknown, and one that was never updated is refused so.
-pub(crate) fn fetched_there<'a>(
-    alloc: Global,
-    state: &'a State,
-    name: &Name,
-) -> Result<&'a Fetched, ChangeFault>
-    ensures good { Valid state.now → OnOk result (or_else (unknown_mirror state.now.mirrors name.now) (never_updated state.now name.now) ≡ None) }
-    ensures fault { Valid state.now → IfErr result (IsFirst (or_else (unknown_mirror state.now.mirrors name.now) (never_updated state.now name.now))) }
-    ensures found { Valid state.now → IfOk result (λ fetched. fetched_of state.now name.now ≡ Some fetched.now) }
-{
-    let mirror = mirror_there(alloc, state, name)?;
-    updated_of(alloc, mirror, name)
 }
 
 /// No publication uses the snapshot. One that is used is refused, with the first publication that does.

@@ -2,15 +2,17 @@
 ghost use Rattle.std.specs.Prelude.{◌≡◌, IfOk, IfErr, OnOk, None, Some};
 ghost use Rattle.command_value.specs.Plain.{plain_follow};
 ghost use Rattle.machine_state.specs.State.{Valid, repo_of, snapshot_of};
+ghost use Rattle.mirror_lists.specs.Mirrors.{fetched_of};
 ghost use Rattle.package_choice.specs.Choice.{bad_follow};
 ghost use Rattle.step_model.specs.Answers.{IsFirst};
-ghost use Rattle.snapshot_ops.specs.Cases.{bad_copy, bad_drop, bad_empty, bad_fetched, bad_filter, bad_merge, bad_pair, bad_rename, bad_search, bad_snapshot, fetched_of};
+ghost use Rattle.snapshot_ops.specs.Cases.{bad_copy, bad_drop, bad_empty, bad_fetched, bad_filter, bad_merge, bad_pair, bad_rename, bad_search, bad_snapshot};
 
-use crate::checks::{all_there, fetched_there, names_of, repo_there, unused};
+use crate::checks::{all_there, names_of, repo_there, unused};
 use ap_text::Name;
 use command_value::Follow;
 use control_stanza::Text;
 use machine_state::{ChangeFault, Fetched, Repo, Snapshot, State};
+use mirror_lists::fetched_there;
 use package_choice::check_follow;
 use snapshot_pull::{free, there};
 use std::alloc::Global;

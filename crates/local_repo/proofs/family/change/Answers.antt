@@ -1,11 +1,9 @@
-use Rattle.std.proofs.Common.{ap, subst, None, inl}
+use Rattle.std.proofs.Common.{ap, subst, None}
 use Rattle.command_value.specs.Plain.{plain, repo_list}
-use Rattle.machine_state.specs.declared.refusal.Refusal.TheVariants.{NotBuilt}
 use Rattle.step_model.specs.Case.{Case}
-use Rattle.step_model.proofs.RefusalLemmas.{refuses_first}
 use Rattle.step_model.proofs.FaultLemmas.{err_map, fault_memory, fault_along, fault_told, ok_along, ok_told, refused_along}
 use Rattle.repo_packages.specs.PackageCases.{ArrivesFor}
-use Rattle.local_repo.proofs.CaseLemmas.{case_along, is_named, named_early}
+use Rattle.local_repo.proofs.CaseLemmas.{case_along, is_named, no_other}
 use Rattle.local_repo.proofs.family.change.Goals as goal
 
 pub returns-in-RepoCreate-clause-ok : goal.returns-in-RepoCreate-clause-ok
@@ -151,8 +149,21 @@ returns-in-RepoMove-clause-fault g c = λ k inbox e v m.
     let is = ap plain c.in-RepoMove.is in
     refused_along _ _ _ _ _ c.args.arrived.now c.transfer.result (case_along state c.args.command.now k _ e is) (c.transfer.ensures.fault _ c.args.arrived.now is tt v)
 
+pub returns-in-RepoImport-clause-ok : goal.returns-in-RepoImport-clause-ok
+returns-in-RepoImport-clause-ok g c = λ k inbox e v m.
+    let state = c.args.state.now in
+    let is = ap plain c.in-RepoImport.is in
+    ok_told _ _ _ state _ c.args.arrived.now c.import.result
+    (ok_along None state _ _ c.args.arrived.now c.import.result (case_along state c.args.command.now k _ e is) (c.import.ensures.ok _ c.args.arrived.now is tt v))
+
+pub returns-in-RepoImport-clause-fault : goal.returns-in-RepoImport-clause-fault
+returns-in-RepoImport-clause-fault g c = λ k inbox e v m.
+    let state = c.args.state.now in
+    let is = ap plain c.in-RepoImport.is in
+    refused_along _ _ _ _ _ c.args.arrived.now c.import.result (case_along state c.args.command.now k _ e is) (c.import.ensures.fault _ c.args.arrived.now is tt v)
+
 pub returns-in_default-clause-fault : goal.returns-in_default-clause-fault
 returns-in_default-clause-fault g c = λ k inbox e v m.
     let d = c.in_default in
-    let is = is_named c.args.state.now c.args.command.now k e d.not-RepoAdd d.not-RepoRemove d.not-RepoCopy d.not-RepoMove in
-    (None, tt, inl (refuses_first None _ NotBuilt (named_early c.args.state.now c.args.command.now k e is d.not-RepoCreate d.not-RepoList d.not-RepoShow d.not-RepoEdit d.not-RepoRename d.not-RepoDrop)))
+    let is = is_named c.args.state.now c.args.command.now k e d.not-RepoAdd d.not-RepoRemove d.not-RepoCopy d.not-RepoMove d.not-RepoImport in
+    absurd (no_other c.args.state.now c.args.command.now k e is d.not-RepoCreate d.not-RepoList d.not-RepoShow d.not-RepoEdit d.not-RepoRename d.not-RepoDrop)

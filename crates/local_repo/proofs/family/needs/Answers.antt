@@ -1,5 +1,5 @@
 use Rattle.std.proofs.Common.{◌∙◌, ℕ, List, ap, sym, None, Some, false, unwrap_or}
-use Rattle.command_value.specs.Plain.{plain, plain_follow, of_repo, repo_copy, repo_move, repo_remove}
+use Rattle.command_value.specs.Plain.{plain, plain_follow, of_repo, repo_copy, repo_import, repo_move, repo_remove}
 use Rattle.step_model.specs.Refuses.{Refuses}
 use Rattle.step_model.proofs.FaultLemmas.{keeps_same, none_told, wanted_along, refuses_along, told_along}
 use Rattle.repo_packages.specs.PackageCases.{chosen_for, copy_case, copying, move_case, moving}
@@ -44,16 +44,24 @@ pub returns-in-RepoMove-clause-fault : goal.returns-in-RepoMove-clause-fault
 unfolding repo_case move_case
 returns-in-RepoMove-clause-fault g c = λ k e v. told_along _ _ _ _ _ c.pair_needs-in-RepoMove.result (case_along c.args.state.now c.args.command.now k _ e (ap plain c.in-RepoMove.is ∙ ap (λ (q : List (List ℕ)). of_repo (repo_move c.in-RepoMove.dry_run c.in-RepoMove.with_deps (plain_follow c.in-RepoMove.follow) c.in-RepoMove.source c.in-RepoMove.destination q)) (sym c.deref-in-RepoMove.ensures.value))) (c.pair_needs-in-RepoMove.ensures.fault c.in-RepoMove.with_deps (moving c.args.state.now (unwrap_or c.in-RepoMove.dry_run false) c.in-RepoMove.source c.in-RepoMove.destination (chosen_for c.args.state.now c.in-RepoMove.with_deps (plain_follow c.in-RepoMove.follow) c.in-RepoMove.source c.deref-in-RepoMove.result.now)) v)
 
+pub returns-in-RepoImport-clause-ok : goal.returns-in-RepoImport-clause-ok
+unfolding repo_case
+returns-in-RepoImport-clause-ok g c = λ k e v. wanted_along None _ _ c.import_needs.result (case_along c.args.state.now c.args.command.now k _ e (ap plain c.in-RepoImport.is ∙ ap (λ (q : List (List ℕ)). of_repo (repo_import c.in-RepoImport.dry_run c.in-RepoImport.with_deps (plain_follow c.in-RepoImport.follow) c.in-RepoImport.mirror c.in-RepoImport.repo q)) (sym c.deref-in-RepoImport.ensures.value))) (c.import_needs.ensures.ok c.in-RepoImport.dry_run c.in-RepoImport.with_deps v)
+
+pub returns-in-RepoImport-clause-fault : goal.returns-in-RepoImport-clause-fault
+unfolding repo_case
+returns-in-RepoImport-clause-fault g c = λ k e v. told_along _ _ _ _ _ c.import_needs.result (case_along c.args.state.now c.args.command.now k _ e (ap plain c.in-RepoImport.is ∙ ap (λ (q : List (List ℕ)). of_repo (repo_import c.in-RepoImport.dry_run c.in-RepoImport.with_deps (plain_follow c.in-RepoImport.follow) c.in-RepoImport.mirror c.in-RepoImport.repo q)) (sym c.deref-in-RepoImport.ensures.value))) (c.import_needs.ensures.fault c.in-RepoImport.dry_run c.in-RepoImport.with_deps v)
+
 pub returns-in_default-clause-ok : goal.returns-in_default-clause-ok
 returns-in_default-clause-ok g c = λ k e v.
     let d = c.in_default in
-    c.named_needs.ensures.ok k e (is_named c.args.state.now c.args.command.now k e d.not-RepoAdd d.not-RepoRemove d.not-RepoCopy d.not-RepoMove) v
+    c.named_needs.ensures.ok k e (is_named c.args.state.now c.args.command.now k e d.not-RepoAdd d.not-RepoRemove d.not-RepoCopy d.not-RepoMove d.not-RepoImport) v
 
 pub returns-in_default-clause-fault : goal.returns-in_default-clause-fault
 returns-in_default-clause-fault g c = λ k e v.
     let d = c.in_default in
     none_told _ _ _ (λ large refusal. Refuses large (repo_case c.args.state.now k) (Some refusal)) c.named_needs.result
-    (c.named_needs.ensures.fault k e (is_named c.args.state.now c.args.command.now k e d.not-RepoAdd d.not-RepoRemove d.not-RepoCopy d.not-RepoMove) v)
+    (c.named_needs.ensures.fault k e (is_named c.args.state.now c.args.command.now k e d.not-RepoAdd d.not-RepoRemove d.not-RepoCopy d.not-RepoMove d.not-RepoImport) v)
 
 pub returns-in_default-clause-kept : goal.returns-in_default-clause-kept
 returns-in_default-clause-kept g c = keeps_same _ c.named_needs.result

@@ -1,12 +1,10 @@
 use Rattle.std.proofs.Common.{ap, subst, sym, None}
 use Rattle.command_value.specs.Plain.{plain, repo_list}
-use Rattle.machine_state.specs.declared.refusal.Refusal.TheVariants.{NotBuilt}
 use Rattle.step_model.specs.declared.reading.Reading.TheVariants as readings
 use Rattle.step_model.specs.Answers.{IsWanted}
 use Rattle.step_model.specs.Case.{Case}
-use Rattle.step_model.proofs.RefusalLemmas.{refuses_first}
 use Rattle.step_model.proofs.FaultLemmas.{refuses_along, wanted_along}
-use Rattle.local_repo.proofs.CaseLemmas.{case_along, list_wanted, named_early}
+use Rattle.local_repo.proofs.CaseLemmas.{case_along, list_wanted, no_other}
 use Rattle.local_repo.proofs.named.named_needs.Goals as goal
 
 pub returns-in-RepoCreate-clause-ok : goal.returns-in-RepoCreate-clause-ok
@@ -45,4 +43,4 @@ returns-in-RepoList-clause-ok c = λ k e is v. subst (λ (q : Case). IsWanted No
 pub returns-in_default-clause-fault : goal.returns-in_default-clause-fault
 returns-in_default-clause-fault c = λ k e is v.
     let d = c.in_default in
-    refuses_first None _ NotBuilt (named_early c.args.state.now c.args.command.now k e is d.not-RepoCreate d.not-RepoList d.not-RepoShow d.not-RepoEdit d.not-RepoRename d.not-RepoDrop)
+    absurd (no_other c.args.state.now c.args.command.now k e is d.not-RepoCreate d.not-RepoList d.not-RepoShow d.not-RepoEdit d.not-RepoRename d.not-RepoDrop)

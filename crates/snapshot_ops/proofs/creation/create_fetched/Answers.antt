@@ -2,7 +2,8 @@ use Rattle.std.proofs.Common.{◌≡◌, ◌∙◌, ap, sym, None}
 use Rattle.std.proofs.lemmas.Result.{IfOk-weaker}
 use Rattle.step_model.specs.Names.{bad_name}
 use Rattle.step_model.proofs.FaultLemmas.{at_exit, err_map, fault_first, fault_map}
-use Rattle.snapshot_ops.specs.Cases.{bad_fetched, fetched_list_in, fetched_list_of, taken}
+use Rattle.mirror_lists.specs.Mirrors.{fetched_list_in, fetched_list_of}
+use Rattle.snapshot_ops.specs.Cases.{bad_fetched, taken}
 use Rattle.snapshot_ops.proofs.CaseLemmas.{first_none, plain_comes, plain_refused, second_none}
 use Rattle.snapshot_ops.proofs.NewLemmas.{created_as, free_as}
 use Rattle.snapshot_ops.proofs.creation.create_fetched.Goals as goal

@@ -2,7 +2,8 @@ use Rattle.std.proofs.Common.{◌≡◌, ℕ, List, None, subst}
 use Rattle.step_model.specs.Names.{bad_name}
 use Rattle.step_model.proofs.FaultLemmas.{at_exit, first_decides, second_decides}
 use Rattle.snapshot_ops.specs.Cases.{taken}
-use Rattle.snapshot_ops.proofs.CaseLemmas.{fetched_along, taken_along}
+use Rattle.mirror_lists.proofs.MirrorLemmas.{fetched_along}
+use Rattle.snapshot_ops.proofs.CaseLemmas.{taken_along}
 use Rattle.snapshot_ops.proofs.early.fetched_early.Goals as goal
 
 pub returns-in_err-free-clause-fault : goal.returns-in_err-free-clause-fault
