@@ -12,9 +12,7 @@ ghost use Rattle.local_repo.specs.Verbs.{IsAdd, IsRemove, IsCopy, IsMove, IsImpo
 use command_value::Command;
 use machine_state::{Arrived, Change, ChangeFault, Refusal, State};
 use query_eval::Patterns;
-use repo_packages::{
-    add_packages, copy_packages, import_packages, move_packages, remove_packages,
-};
+use repo_packages::{add_packages, copy_packages, import_packages, move_packages, remove_packages};
 use std::alloc::Global;
 
 /// What `repo add` changes with what arrived of its folder. It needs a command of that verb.

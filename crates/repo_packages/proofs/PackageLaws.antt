@@ -231,6 +231,6 @@ pub import_law : (dry deps : Option Bool) (follow : PlainFollow) (mirror repo : 
 unfolding import_case
 import_law dry deps follow mirror repo queries = (
   inr (λ inbox state. joining_law state (MayArrive inbox state readings.Nothing) (bad_import state follow mirror repo) (never_updated state mirror) queries repo (imported state deps follow mirror queries) _
-  (own_import state follow mirror repo) (own_updated state mirror) (copy_joins state repo (imported state deps follow mirror queries) (unwrap_or dry false) (imported_named state deps follow mirror queries))),
+      (own_import state follow mirror repo) (own_updated state mirror) (copy_joins state repo (imported state deps follow mirror queries) (unwrap_or dry false) (imported_named state deps follow mirror queries))),
   import_reads dry deps follow mirror repo queries,
 )
