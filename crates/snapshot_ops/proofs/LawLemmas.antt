@@ -1,5 +1,5 @@
 -- What the cases of snapshots keep to.
-use Rattle.std.proofs.Common.{◌≡◌, ◌≢◌, ℕ, List, [], ◌∷◌, length, map, Option, Some, None, true, Result, Ok, Err, refl, subst, inl}
+use Rattle.std.proofs.Common.{◌≡◌, ◌≢◌, ℕ, List, [], ◌∷◌, length, map, Option, Some, None, IfSome, true, Result, Ok, Err, refl, subst, inl}
 use Rattle.std.specs.List.{AllByRecursion}
 use Rattle.std.specs.Option.{is_some}
 use Rattle.ap_text.specs.Names.{is_name}
