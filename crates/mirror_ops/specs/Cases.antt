@@ -21,6 +21,7 @@ use Rattle.step_model.specs.declared.reading.Reading.{Reading}
 use Rattle.step_model.specs.declared.reading.Reading.TheVariants as readings
 use Rattle.step_model.specs.Case.{Case, Came, changes, refuses, or_else, plain_case, asking_case, unbuilt}
 use Rattle.step_model.specs.Names.{bad_name}
+use Rattle.step_model.specs.Refuses.{reading}
 use Rattle.mirror_ops.specs.Settings.{asked, bad_settings, bare_mirror, filtered}
 
 -- ---- what is there
@@ -127,6 +128,10 @@ ArchiveArrives large inbox state name arrived = MirrorArrives large inbox state 
 abbrev pub MayArrive : Option Files → StateView → Reading → Arrived → Type 0
 MayArrive inbox state (readings.Mirror name) arrived = (large : Option (List ℕ)) × ArchiveArrives large inbox state name arrived
 MayArrive inbox state reading arrived = Unit {0}
+
+-- what may arrive for a command
+abbrev pub ArrivesFor : Option Files → StateView → Case → Arrived → Type 0
+ArrivesFor inbox state case arrived = MayArrive inbox state (reading case) arrived
 
 -- a command of mirrors reads nothing, or an archive, and has no conditions of its own then
 abbrev pub ReadsArchive : Case → Reading → Type 0
