@@ -5,7 +5,7 @@ use Rattle.std.specs.Global.{Vec}
 use Rattle.std.specs.Bool.{if◌then◌else◌}
 use Rattle.command_value.specs.declared.command.Command.{Command}
 use Rattle.command_value.specs.declared.command.Command.TheVariants as commands
-use Rattle.command_value.specs.Plain.{PlainCommand, MirrorCommand, plain, of_mirror, mirror_create, mirror_list, mirror_show, mirror_rename, mirror_drop}
+use Rattle.command_value.specs.Plain.{PlainCommand, MirrorCommand, plain, of_mirror, mirror_create, mirror_update, mirror_list, mirror_show, mirror_rename, mirror_drop}
 use Rattle.machine_state.specs.declared.limit.Kind.TheVariants as kinds
 use Rattle.machine_state.specs.declared.change.ChangeFault.{ChangeFault}
 use Rattle.machine_state.specs.declared.refusal.Refusal.{Refusal}
@@ -21,7 +21,7 @@ use Rattle.step_model.proofs.AskingLemmas.{asking_comes}
 use Rattle.step_model.proofs.FaultLemmas.{fault_map}
 use Rattle.step_model.proofs.RefusalLemmas.{passes, reads_on}
 use Rattle.mirror_lists.specs.Mirrors.{unknown_mirror}
-use Rattle.mirror_ops.specs.Cases.{IsCreate, IsDrop, IsRename, IsShow, mirror_case, taken}
+use Rattle.mirror_ops.specs.Cases.{IsCreate, IsDrop, IsRename, IsShow, IsUpdate, mirror_case, taken}
 
 -- ---- names
 
@@ -83,6 +83,7 @@ NoCreate command =
 
 module _ (command : Command)
     (a : NoCreate command)
+    (u : (name : List ℕ) → command ≡ commands.MirrorUpdate name → ⊥)
     (b : command ≡ commands.MirrorList → ⊥)
     (d : (packages : Option Bool) (name : List ℕ) → command ≡ commands.MirrorShow packages name → ⊥)
     (h : (before after : List ℕ) → command ≡ commands.MirrorRename before after → ⊥)
@@ -90,13 +91,14 @@ module _ (command : Command)
   unbuilt_in : (state : StateView) (other : Command) → command ≡ other → case_in state (plain other) ≡ unbuilt
   unfolding mirror_case
   unbuilt_in state (commands.MirrorCreate architectures filter deps name archive distribution components) is = absurd (a architectures filter deps name archive distribution components is)
+  unbuilt_in state (commands.MirrorUpdate name) is = absurd (u name is)
   unbuilt_in state commands.MirrorList is = absurd (b is)
   unbuilt_in state (commands.MirrorShow packages name) is = absurd (d packages name is)
   unbuilt_in state (commands.MirrorRename before after) is = absurd (h before after is)
   unbuilt_in state (commands.MirrorDrop name) is = absurd (k name is)
   unbuilt_in state other is = refl
 
-  -- each other command isn't built
+  -- another command isn't one of mirrors
   pub other_early : (state : StateView) (c : MirrorCommand) → plain command ≡ of_mirror c → (mirror_case state c).early ≡ Some NotBuilt
   other_early state c is = ap (λ (q : Case). q.early) (sym (ap (case_in state) is) ∙ unbuilt_in state command refl)
 
@@ -105,6 +107,11 @@ pub is_create : (command : Command) (c : MirrorCommand) → plain command ≡ of
 is_create (commands.MirrorCreate a f w n r d k) c e is not = not a f w n r d k refl
 is_create command (mirror_create architectures filter deps name archive distribution components) e is not = absurd (cc)
 is_create command c e is not = absurd is
+
+pub is_update : (command : Command) (c : MirrorCommand) → plain command ≡ of_mirror c → IsUpdate c → ((name : List ℕ) → command ≡ commands.MirrorUpdate name → ⊥) → ⊥
+is_update (commands.MirrorUpdate n) c e is not = not n refl
+is_update command (mirror_update name) e is not = absurd (cc)
+is_update command c e is not = absurd is
 
 pub is_show : (command : Command) (c : MirrorCommand) → plain command ≡ of_mirror c → IsShow c → ((packages : Option Bool) (name : List ℕ) → command ≡ commands.MirrorShow packages name → ⊥) → ⊥
 is_show (commands.MirrorShow p n) c e is not = not p n refl

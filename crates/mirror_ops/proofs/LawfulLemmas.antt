@@ -1,24 +1,25 @@
 -- Laws of the cases of mirrors.
 use Rattle.std.proofs.Common.{◌≢◌, ℕ, List, [], Option, Some, None, Bool, true, false, unwrap_or, refl, inl, inr}
 use Rattle.std.specs.Bool.{if◌then◌else◌}
-use Rattle.command_value.specs.Plain.{MirrorCommand, mirror_create, mirror_list, mirror_show, mirror_rename, mirror_drop}
+use Rattle.command_value.specs.Plain.{MirrorCommand, mirror_create, mirror_update, mirror_list, mirror_show, mirror_rename, mirror_drop}
 use Rattle.machine_state.specs.declared.arrived.Arrived.{Arrived}
 use Rattle.machine_state.specs.Named.{dropped, renamed}
 use Rattle.machine_state.specs.State.{mirror_name, mirror_of}
 use Rattle.machine_state.specs.Values.{MirrorView, StateView}
 use Rattle.reply_text.specs.Mirrors as replies
 use Rattle.step_model.specs.declared.reading.Reading.TheVariants as readings
-use Rattle.step_model.specs.Case.{changes, plain_case}
+use Rattle.step_model.specs.Case.{Case, changes, plain_case}
 use Rattle.step_model.specs.Names.{bad_name}
 use Rattle.step_model.specs.Lawful.{CommandLaw, IsLawful}
-use Rattle.step_model.specs.Refuses.{IsReadable, reading}
+use Rattle.step_model.specs.Refuses.{reading}
 use Rattle.step_model.proofs.OwnLemmas.{first_none, own_else, own_name, second_none}
 use Rattle.mirror_lists.specs.Mirrors.{unknown_mirror}
 use Rattle.mirror_lists.proofs.MirrorLemmas.{own_mirror}
 use Rattle.mirror_ops.specs.Settings.{asked, bad_settings, bare_mirror, filtered}
-use Rattle.mirror_ops.specs.Cases.{MayArrive, bad_create, bad_mirror, bad_rename, called, create_case, drop_case, mirror_case, rename_case, show_case, shown, taken}
+use Rattle.mirror_ops.specs.Cases.{MayArrive, ReadsArchive, bad_create, bad_mirror, bad_rename, called, create_case, drop_case, mirror_case, rename_case, show_case, shown, taken, update_case}
 use Rattle.mirror_ops.proofs.LawLemmas.{Keeps, asking_law, changing, created_keeps, front_some, line_some, mirror_is, name_is, own_called, own_settings, own_taken, plain_law, telling}
 use Rattle.mirror_ops.proofs.StateLemmas.{valid_dropped, valid_renamed}
+use Rattle.mirror_ops.proofs.UpdateCases.{Fit, update_law}
 
 module _ (state : StateView) (May : Arrived → Type 0) where
   create_law : (architectures : Option (List (List ℕ))) (filter : Option (List ℕ)) (deps : Option Bool) (name archive distribution : List ℕ) (components : List (List ℕ))
@@ -78,26 +79,31 @@ module _ (state : StateView) (May : Arrived → Type 0) where
 
 -- ---- all of them
 
-pub lawful : (c : MirrorCommand) → CommandLaw (λ state. mirror_case state c) MayArrive
+-- where what arrives for a mirror fits
+pub lawful : Fit → (c : MirrorCommand) → CommandLaw (λ state. mirror_case state c) MayArrive
 unfolding mirror_case
-lawful (mirror_create architectures filter deps name archive distribution components) = inr (λ inbox state. create_law state _ architectures filter deps name archive distribution components)
-lawful mirror_list = inr (λ inbox state. list_law state _)
-lawful (mirror_show packages name) = inr (λ inbox state. show_law state _ (unwrap_or packages false) name)
-lawful (mirror_rename before after) = inr (λ inbox state. rename_law state _ before after)
-lawful (mirror_drop name) = inr (λ inbox state. drop_law state _ name)
-lawful c = inl (λ state. refl)
+lawful fit (mirror_create architectures filter deps name archive distribution components) = inr (λ inbox state. create_law state _ architectures filter deps name archive distribution components)
+lawful fit (mirror_update name) = inr (λ inbox state. update_law fit inbox state name)
+lawful fit mirror_list = inr (λ inbox state. list_law state _)
+lawful fit (mirror_show packages name) = inr (λ inbox state. show_law state _ (unwrap_or packages false) name)
+lawful fit (mirror_rename before after) = inr (λ inbox state. rename_law state _ before after)
+lawful fit (mirror_drop name) = inr (λ inbox state. drop_law state _ name)
 
 -- ---- what is read
 
-nothing_read : (b : Bool) → IsReadable (if b then readings.Nothing else readings.Nothing)
-nothing_read true = tt
-nothing_read false = tt
+nothing_read : (case : Case) (b : Bool) → ReadsArchive case (if b then readings.Nothing else readings.Nothing)
+nothing_read case true = tt
+nothing_read case false = tt
 
-pub mirror_reads : (state : StateView) (c : MirrorCommand) → IsReadable (reading (mirror_case state c))
+archive_read : (state : StateView) (name : List ℕ) (b : Bool) → ReadsArchive (update_case state name) (if b then readings.Nothing else readings.Mirror name)
+archive_read state name true = tt
+archive_read state name false = refl
+
+pub mirror_reads : (state : StateView) (c : MirrorCommand) → ReadsArchive (mirror_case state c) (reading (mirror_case state c))
 unfolding mirror_case
-mirror_reads state (mirror_create architectures filter deps name archive distribution components) = nothing_read _
+mirror_reads state (mirror_create architectures filter deps name archive distribution components) = nothing_read (create_case state architectures filter deps name archive distribution components) _
+mirror_reads state (mirror_update name) = archive_read state name _
 mirror_reads state mirror_list = tt
-mirror_reads state (mirror_show packages name) = nothing_read _
-mirror_reads state (mirror_rename before after) = nothing_read _
-mirror_reads state (mirror_drop name) = nothing_read _
-mirror_reads state c = tt
+mirror_reads state (mirror_show packages name) = nothing_read (show_case state (unwrap_or packages false) name) _
+mirror_reads state (mirror_rename before after) = nothing_read (rename_case state before after) _
+mirror_reads state (mirror_drop name) = nothing_read (drop_case state name) _

@@ -5,4 +5,6 @@ pub mod NewLemmas
 pub mod NameLemmas
 pub mod StateLemmas
 pub mod LawLemmas
+pub mod UpdateLemmas
+pub mod UpdateCases
 pub mod LawfulLemmas

@@ -1,13 +1,14 @@
 -- The commands of mirrors: what each is in a state.
-use Rattle.std.specs.Prelude.{ℕ, Bool, false, List, length, Option, Some, None, nat_le, unwrap_or, if◌then◌else◌}
+use Rattle.std.specs.Prelude.{◌≡◌, ℕ, Bool, false, List, [], length, Option, Some, None, nat_le, unwrap_or, if◌then◌else◌}
 use Rattle.std.specs.Option.{is_some}
 use Rattle.ap_host.specs.Disk.{Files}
-use Rattle.command_value.specs.Plain.{MirrorCommand, mirror_create, mirror_list, mirror_show, mirror_rename, mirror_drop}
+use Rattle.command_value.specs.Plain.{MirrorCommand, mirror_create, mirror_update, mirror_list, mirror_show, mirror_rename, mirror_drop}
 use Rattle.machine_state.specs.declared.limit.Kind.TheVariants as kinds
 use Rattle.machine_state.specs.declared.limit.Limit.TheVariants.{Mirrors}
 use Rattle.machine_state.specs.declared.refusal.Refusal.{Refusal}
-use Rattle.machine_state.specs.declared.refusal.Refusal.TheVariants.{Exists, Unknown, Limit}
+use Rattle.machine_state.specs.declared.refusal.Refusal.TheVariants.{Exists, Unknown, Limit, NotBuilt}
 use Rattle.machine_state.specs.declared.arrived.Arrived.{Arrived}
+use Rattle.machine_state.specs.declared.arrived.Arrived.TheVariants as arrivals
 use Rattle.machine_state.specs.Ascending.{put}
 use Rattle.machine_state.specs.Limits.{limit_number}
 use Rattle.machine_state.specs.Named.{dropped, renamed}
@@ -15,9 +16,13 @@ use Rattle.machine_state.specs.State.{mirror_cmp, mirror_name, mirror_of}
 use Rattle.machine_state.specs.Values.{MirrorView, StateView}
 use Rattle.mirror_lists.specs.Mirrors.{unknown_mirror}
 use Rattle.reply_text.specs.Mirrors as replies
+use Rattle.mirror_update.specs.Answers.{IsArrival}
+use Rattle.mirror_update.specs.Fits.{updated}
 use Rattle.step_model.specs.declared.reading.Reading.{Reading}
+use Rattle.step_model.specs.declared.reading.Reading.TheVariants as readings
 use Rattle.step_model.specs.Case.{Case, Came, changes, refuses, or_else, plain_case, asking_case, unbuilt}
 use Rattle.step_model.specs.Names.{bad_name}
+use Rattle.step_model.specs.Refuses.{reading}
 use Rattle.mirror_ops.specs.Settings.{asked, bad_settings, bare_mirror, filtered}
 
 -- ---- what is there
@@ -84,26 +89,62 @@ without_mirror state name = record state { mirrors = dropped mirror_name name st
 abbrev pub drop_case : StateView → List ℕ → Case
 drop_case state name = plain_case (bad_mirror state name) (changes (replies.mirror_dropped name) (without_mirror state name))
 
+-- ---- an archive
+
+-- what arrived is what the mirror has fetched now
+abbrev pub taken_in : StateView → List ℕ → Arrived → Came
+taken_in state name (arrivals.List list date) = changes (replies.mirror_updated name (length list)) (updated state name (record { date = date; list = list }))
+taken_in state name (arrivals.Refused refusal) = refuses refusal
+taken_in state name arrivals.Nothing = refuses NotBuilt
+
+-- A mirror is updated. The patterns of its filter are built where the archive is read, so the command has no conditions of its own.
+abbrev pub update_case : StateView → List ℕ → Case
+update_case state name = record { early = bad_mirror state name; conditions = []; late = None; reads = readings.Mirror name; comes = taken_in state name }
+
 -- ---- all of them
 
--- What each command of mirrors is in a state. What reads an archive isn't built yet.
+-- What each command of mirrors is in a state.
 unfoldable pub mirror_case : StateView → MirrorCommand → Case
 mirror_case state (mirror_create architectures filter with_deps name archive distribution components) = create_case state architectures filter with_deps name archive distribution components
+mirror_case state (mirror_update name) = update_case state name
 mirror_case state mirror_list = plain_case None (changes (replies.mirror_list state.mirrors) state)
 mirror_case state (mirror_show packages name) = show_case state (unwrap_or packages false) name
 mirror_case state (mirror_rename before after) = rename_case state before after
 mirror_case state (mirror_drop name) = drop_case state name
-mirror_case state command = unbuilt
 
--- a command of mirrors that is built reads nothing, and looks at nothing that arrives
+-- what may arrive of the archive of a mirror, in a call whose pattern builder refused this text for its size; a mirror that isn't there is unknown
+abbrev pub MirrorArrives : Option (List ℕ) → Option Files → StateView → List ℕ → Option MirrorView → Arrived → Type 0
+MirrorArrives large inbox state name (Some mirror) arrived = IsArrival large inbox state mirror arrived
+MirrorArrives large inbox state name None arrived = arrived ≡ arrivals.Refused (Unknown kinds.Mirror name)
+
+-- the same of the mirror of that name
+abbrev pub ArchiveArrives : Option (List ℕ) → Option Files → StateView → List ℕ → Arrived → Type 0
+ArchiveArrives large inbox state name arrived = MirrorArrives large inbox state name (mirror_of name state.mirrors) arrived
+
+-- what may arrive where this is read: of an archive what may of it, whatever text was refused for its size
 abbrev pub MayArrive : Option Files → StateView → Reading → Arrived → Type 0
+MayArrive inbox state (readings.Mirror name) arrived = (large : Option (List ℕ)) × ArchiveArrives large inbox state name arrived
 MayArrive inbox state reading arrived = Unit {0}
+
+-- what may arrive for a command
+abbrev pub ArrivesFor : Option Files → StateView → Case → Arrived → Type 0
+ArrivesFor inbox state case arrived = MayArrive inbox state (reading case) arrived
+
+-- a command of mirrors reads nothing, or an archive, and has no conditions of its own then
+abbrev pub ReadsArchive : Case → Reading → Type 0
+ReadsArchive case readings.Nothing = Unit {0}
+ReadsArchive case (readings.Mirror name) = case.conditions ≡ []
+ReadsArchive case (readings.Folder name folder) = ⊥
 
 -- ---- of which verb a command is
 
 abbrev pub IsCreate : MirrorCommand → Type 0
 IsCreate (mirror_create architectures filter with_deps name archive distribution components) = Unit {0}
 IsCreate c = ⊥
+
+abbrev pub IsUpdate : MirrorCommand → Type 0
+IsUpdate (mirror_update name) = Unit {0}
+IsUpdate c = ⊥
 
 abbrev pub IsShow : MirrorCommand → Type 0
 IsShow (mirror_show packages name) = Unit {0}

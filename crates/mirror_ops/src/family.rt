@@ -1,21 +1,22 @@
 //! The commands of mirrors, by their verbs.
 ghost use Rattle.std.specs.Prelude.{◌≡◌, ◌≤◌, Bool, Option, IfOk, IfErr, None, Some};
 ghost use Rattle.std.specs.Option.{option_map};
+ghost use Rattle.ap_host.specs.Disk.{Files};
 ghost use Rattle.command_value.specs.Plain.{MirrorCommand, plain, of_mirror};
 ghost use Rattle.machine_state.specs.State.{Valid};
-ghost use Rattle.machine_state.specs.declared.arrived.Arrived.{Arrived};
 ghost use Rattle.step_model.specs.Answers.{ChangesTo, FaultIs, IsNew, IsWanted, KeepsBy, RefusedBy, RefusesBy};
 ghost use Rattle.step_model.specs.Refuses.{Refuses};
-ghost use Rattle.mirror_ops.specs.Cases.{create_case, drop_case, mirror_case, rename_case, show_case};
+ghost use Rattle.mirror_ops.specs.Cases.{ArrivesFor, create_case, drop_case, mirror_case, rename_case, show_case, update_case};
 
 use crate::creation::create;
 use crate::early::{create_early, drop_early, named_mirror, rename_early};
 use crate::naming::{drop, rename};
 use crate::settings::filter_of;
 use crate::shown::{list, show};
+use crate::updating::update;
 use command_value::Command;
 use control_stanza::Text;
-use machine_state::{Change, ChangeFault, Refusal, State};
+use machine_state::{Arrived, Change, ChangeFault, Refusal, State};
 use query_eval::Patterns;
 use std::alloc::Global;
 use step_model::Reading;
@@ -50,6 +51,14 @@ fn create_needs<M: Patterns>(
     Ok(Reading::Nothing)
 }
 
+fn update_needs(alloc: Global, state: &State, name: &Text) -> Result<Reading, ChangeFault>
+    ensures ok { Valid state.now → IfOk result (IsWanted None (update_case state.now name.now)) }
+    ensures fault { Valid state.now → IfErr result (FaultIs (λ refusal. Refuses None (update_case state.now name.now) (Some refusal))) }
+{
+    let mirror = named_mirror(alloc, state, name)?;
+    Ok(Reading::Mirror(mirror.name.copy(alloc)?))
+}
+
 fn show_needs(alloc: Global, state: &State, name: &Text) -> Result<Reading, ChangeFault>
     ensures ok { (packages : Bool) → Valid state.now → IfOk result (IsWanted None (show_case state.now packages name.now)) }
     ensures fault { (packages : Bool) → Valid state.now → IfErr result (FaultIs (λ refusal. Refuses None (show_case state.now packages name.now) (Some refusal))) }
@@ -79,9 +88,9 @@ fn drop_needs(alloc: Global, state: &State, name: &Text) -> Result<Reading, Chan
     Ok(Reading::Nothing)
 }
 
-/// What is to be read for a command of mirrors in a valid state, which is nothing for one that is built, or the first refusal that holds
-/// before anything is read. The patterns of a filter are built, and the first that can't be is told: as `PatternTooLarge` only where
-/// `patterns` refused its text for its size in this call.
+/// What is to be read for a command of mirrors in a valid state, which is the archive of the mirror that is to be updated and nothing for
+/// each other one, or the first refusal that holds before anything is read. The patterns of a new filter are built, and the first that
+/// can't be is told: as `PatternTooLarge` only where `patterns` refused its text for its size in this call.
 pub fn needs<M: Patterns>(
     alloc: Global,
     state: &State,
@@ -114,6 +123,7 @@ pub fn needs<M: Patterns>(
             components,
             patterns,
         ),
+        Command::MirrorUpdate { name } => update_needs(alloc, state, name),
         Command::MirrorList => Ok(Reading::Nothing),
         Command::MirrorShow { name, .. } => show_needs(alloc, state, name),
         Command::MirrorRename { from_name, to_name } => {
@@ -124,15 +134,16 @@ pub fn needs<M: Patterns>(
     }
 }
 
-/// What a command of mirrors changes in a valid state, or the first refusal that holds.
+/// What a command of mirrors changes in a valid state with what arrived for it, or the first refusal that holds.
 pub fn change<M: Patterns>(
     alloc: Global,
     state: &State,
     command: &Command,
+    arrived: &Arrived,
     patterns: &mut M,
 ) -> Result<Change, ChangeFault>
-    ensures ok { (c : MirrorCommand) (arrived : Arrived) → plain command.now ≡ of_mirror c → Valid state.now → IfOk result (ChangesTo state.now (mirror_case state.now c) arrived) }
-    ensures fault { (c : MirrorCommand) (arrived : Arrived) → plain command.now ≡ of_mirror c → Valid state.now → IfErr result (RefusedBy M.Patterns patterns.old patterns.new (mirror_case state.now c) arrived) }
+    ensures ok { (c : MirrorCommand) (inbox : Option Files) → plain command.now ≡ of_mirror c → Valid state.now → ArrivesFor inbox state.now (mirror_case state.now c) arrived.now → IfOk result (ChangesTo state.now (mirror_case state.now c) arrived.now) }
+    ensures fault { (c : MirrorCommand) (inbox : Option Files) → plain command.now ≡ of_mirror c → Valid state.now → ArrivesFor inbox state.now (mirror_case state.now c) arrived.now → IfErr result (RefusedBy M.Patterns patterns.old patterns.new (mirror_case state.now c) arrived.now) }
     // A state that is told is another one.
     ensures new { Valid state.now → IfOk result (λ change. IsNew state.now change.state) }
     ensures never_falls { M.refusals patterns.old ≤ M.refusals patterns.new }
@@ -141,6 +152,7 @@ pub fn change<M: Patterns>(
 {
     match command {
         Command::MirrorCreate { .. } => create(alloc, state, command, patterns),
+        Command::MirrorUpdate { .. } => update(alloc, state, command, arrived, patterns),
         Command::MirrorList => list(alloc, state),
         Command::MirrorShow { .. } => show(alloc, state, command, patterns),
         Command::MirrorRename { .. } => rename(alloc, state, command, patterns),

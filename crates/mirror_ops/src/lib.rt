@@ -1,4 +1,4 @@
-//! The commands of mirrors that read no archive, by their verbs.
+//! The commands of mirrors, by their verbs.
 #![tactic(auto)]
 
 mod checks;
@@ -11,6 +11,7 @@ mod naming;
 mod ordered;
 mod settings;
 mod shown;
+mod updating;
 
 pub use creation::create;
 pub use family::{change, needs};
@@ -18,3 +19,4 @@ pub use lawful::mirror_cases_are_lawful;
 pub use names::Part;
 pub use naming::{drop, rename};
 pub use shown::{list, show};
+pub use updating::update;
