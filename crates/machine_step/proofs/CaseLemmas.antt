@@ -8,7 +8,9 @@ use Rattle.machine_state.specs.declared.arrived.Arrived.{Arrived}
 use Rattle.machine_state.specs.Values.{StateView}
 use Rattle.reply_text.specs.Words.{line}
 use Rattle.reply_text.specs.Replies as replies
+use Rattle.step_model.specs.declared.reading.Reading.{Reading}
 use Rattle.step_model.specs.declared.reading.Reading.TheVariants as readings
+use Rattle.step_model.specs.Case.{Case}
 use Rattle.step_model.specs.Lawful.{CommandLaw, IsLawful}
 use Rattle.step_model.specs.Refuses.{IsReadable, reading}
 use Rattle.repo_packages.specs.PackageCases as repos
@@ -17,11 +19,12 @@ use Rattle.snapshot_ops.specs.Cases as snapshots
 use Rattle.snapshot_ops.specs.Cases.{snapshot_case}
 use Rattle.snapshot_ops.proofs.LawfulLemmas.{lawful, snapshot_reads}
 use Rattle.mirror_ops.specs.Cases as mirrors
-use Rattle.mirror_ops.specs.Cases.{mirror_case}
+use Rattle.mirror_ops.specs.Cases.{ReadsArchive, mirror_case}
 use Rattle.mirror_ops.proofs.LawfulLemmas as mirror_laws
 use Rattle.machine_step.specs.Causes.{IsUnbuilt}
-use Rattle.machine_step.specs.Step.{Given, MayArrive, case_of, other_case, read_for}
-use Rattle.machine_step.proofs.FamilyLemmas.{arrives_repo}
+use Rattle.machine_step.specs.Step.{CanBeRead, Given, MayArrive, case_of, other_case, read_for}
+use Rattle.mirror_update.proofs.LawLemmas.{arrives_fit}
+use Rattle.machine_step.proofs.FamilyLemmas.{arrives_mirror, arrives_repo, repo_reads_none}
 use Rattle.machine_step.proofs.AskingLemmas.{asking_lawful}
 
 -- ---- replies
@@ -66,12 +69,12 @@ repo_command c (inl e) = inl (λ now state. e state)
 repo_command c (inr l) = inr (λ given large state.
     let own = l given.inbox state in
     record {
-      valid = λ v early late arrived may. own.valid v early late arrived (arrives_repo given large state (repo_case state c).reads arrived may);
+      valid = λ v early late arrived may. own.valid v early late arrived (arrives_repo given large state (repo_case state c).reads arrived (repo_reads_none state c) may);
       says = own.says;
       knows = own.knows;
       early = own.early;
       late = own.late;
-      comes = λ arrived may. own.comes arrived (arrives_repo given large state (repo_case state c).reads arrived may);
+      comes = λ arrived may. own.comes arrived (arrives_repo given large state (repo_case state c).reads arrived (repo_reads_none state c) may);
     })
 
 snapshot_command : (c : SnapshotCommand) → CommandLaw (λ state. snapshot_case state c) snapshots.MayArrive → IsUnbuilt (of_snapshot c) ⊎ IsLawfulCommand (of_snapshot c)
@@ -94,12 +97,12 @@ mirror_command c (inl e) = inl (λ now state. e state)
 mirror_command c (inr l) = inr (λ given large state.
     let own = l given.inbox state in
     record {
-      valid = λ v early late arrived may. own.valid v early late arrived tt;
+      valid = λ v early late arrived may. own.valid v early late arrived (arrives_mirror given large state (mirror_case state c).reads arrived may);
       says = own.says;
       knows = own.knows;
       early = own.early;
       late = own.late;
-      comes = λ arrived may. own.comes arrived tt;
+      comes = λ arrived may. own.comes arrived (arrives_mirror given large state (mirror_case state c).reads arrived may);
     })
 
 other_command : (c : OtherCommand) → IsUnbuilt (of_other c) ⊎ IsLawfulCommand (of_other c)
@@ -112,7 +115,7 @@ pub command_built : RepoLaw → (c : PlainCommand) → IsUnbuilt c ⊎ IsLawfulC
 unfolding case_of
 command_built law (of_repo c) = repo_command c (law c)
 command_built law (of_other c) = other_command c
-command_built law (of_mirror c) = mirror_command c (mirror_laws.lawful c)
+command_built law (of_mirror c) = mirror_command c (mirror_laws.lawful (λ files state mirror fetched v found a. arrives_fit files state mirror.name mirror fetched v a) c)
 command_built law (of_snapshot c) = snapshot_command c (lawful c)
 command_built law (of_publish c) = inl (λ now state. refl)
 
@@ -128,10 +131,21 @@ other_reads state (package_search query) = nothing_read _
 other_reads state (package_show query) = nothing_read _
 other_reads state c = tt
 
-pub readable : RepoReads → (now : ℤ) (state : StateView) (c : PlainCommand) → IsReadable (read_for now state c)
+-- what can be read of the input, or of an archive
+from_readable : (case : Case) (r : Reading) → IsReadable r → CanBeRead case r
+from_readable case readings.Nothing h = h
+from_readable case (readings.Folder name folder) h = h
+from_readable case (readings.Mirror name) h = absurd h
+
+from_archive : (case : Case) (r : Reading) → ReadsArchive case r → CanBeRead case r
+from_archive case readings.Nothing h = h
+from_archive case (readings.Folder name folder) h = absurd h
+from_archive case (readings.Mirror name) h = h
+
+pub readable : RepoReads → (now : ℤ) (state : StateView) (c : PlainCommand) → CanBeRead (case_of now state c) (read_for now state c)
 unfolding case_of
-readable repos now state (of_repo c) = repos state c
-readable repos now state (of_other c) = other_reads state c
-readable repos now state (of_mirror c) = mirror_laws.mirror_reads state c
-readable repos now state (of_snapshot c) = snapshot_reads state c
+readable repos now state (of_repo c) = from_readable (repo_case state c) (reading (repo_case state c)) (repos state c)
+readable repos now state (of_other c) = from_readable (other_case state c) (reading (other_case state c)) (other_reads state c)
+readable repos now state (of_mirror c) = from_archive (mirror_case state c) (reading (mirror_case state c)) (mirror_laws.mirror_reads state c)
+readable repos now state (of_snapshot c) = from_readable (snapshot_case state c) (reading (snapshot_case state c)) (snapshot_reads state c)
 readable repos now state (of_publish c) = tt

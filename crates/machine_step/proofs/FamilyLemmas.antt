@@ -1,8 +1,10 @@
 -- What a command is, by its family.
-use Rattle.std.proofs.Common.{◌≡◌, ℕ, ℤ, List, Option, Some, refl, sym, ap, ◌∙◌}
+use Rattle.std.proofs.Common.{◌≡◌, ℕ, ℤ, List, Bool, true, false, Option, Some, refl, sym, ap, ◌∙◌}
+use Rattle.std.specs.Bool.{if◌then◌else◌}
+use Rattle.std.specs.Option.{is_some}
 use Rattle.command_value.specs.declared.command.Command.{Command}
 use Rattle.command_value.specs.declared.command.Command.TheVariants as commands
-use Rattle.command_words.specs.Plain.{PlainCommand, MirrorCommand, RepoCommand, SnapshotCommand, OtherCommand, plain, of_mirror, of_repo, of_snapshot, of_publish, of_other, package_search, package_show}
+use Rattle.command_words.specs.Plain.{PlainCommand, MirrorCommand, RepoCommand, SnapshotCommand, OtherCommand, plain, of_mirror, of_repo, of_snapshot, of_publish, of_other, package_search, package_show, repo_add}
 use Rattle.machine_state.specs.declared.change.ChangeFault.TheVariants as faults
 use Rattle.machine_state.specs.declared.refusal.Refusal.{Refusal}
 use Rattle.machine_state.specs.declared.refusal.Refusal.TheVariants.{PatternTooLarge}
@@ -12,8 +14,11 @@ use Rattle.reply_text.specs.Replies as replies
 use Rattle.step_model.specs.declared.reading.Reading.{Reading}
 use Rattle.step_model.specs.declared.reading.Reading.TheVariants as readings
 use Rattle.step_model.specs.Answers.{KeepsBut}
-use Rattle.step_model.specs.Case.{Case, unbuilt}
+use Rattle.step_model.specs.Case.{Case, or_else, unbuilt}
+use Rattle.step_model.specs.Refuses.{reading}
 use Rattle.repo_packages.specs.PackageCases as repos
+use Rattle.repo_packages.specs.PackageCases.{addition_case, copy_case, import_case, move_case, removal_case}
+use Rattle.mirror_ops.specs.Cases as mirrors
 use Rattle.mirror_ops.specs.Cases.{mirror_case}
 use Rattle.local_repo.specs.Cases.{repo_case}
 use Rattle.snapshot_ops.specs.Cases.{snapshot_case}
@@ -75,11 +80,35 @@ case_of_rest now s (of_mirror c) a b m d = absurd (m refl)
 case_of_rest now s (of_publish c) a b m d = refl
 case_of_rest now s (of_other c) a b m d = absurd (d refl)
 
+-- no archive is read
+abbrev pub NoArchive : Reading → Type 0
+NoArchive (readings.Mirror name) = ⊥
+NoArchive reading = Unit {0}
+
+-- a command of repositories reads no archive
+pub repo_reads_none : (s : StateView) (c : RepoCommand) → NoArchive (repo_case s c).reads
+unfolding repo_case addition_case removal_case copy_case move_case import_case
+repo_reads_none s (repo_add name folder) = tt
+repo_reads_none s c = tt
+
+no_archive_by : (b : Bool) (r : Reading) → NoArchive r → NoArchive (if b then readings.Nothing else r)
+no_archive_by true r h = tt
+no_archive_by false r h = h
+
+pub repo_reads_no_archive : (s : StateView) (c : RepoCommand) → NoArchive (reading (repo_case s c))
+repo_reads_no_archive s c = no_archive_by (is_some (or_else (repo_case s c).early (repo_case s c).late)) (repo_case s c).reads (repo_reads_none s c)
+
 -- what may arrive for a command of repositories
-pub arrives_repo : (given : Given) (large : Option (List ℕ)) (s : StateView) (reading : Reading) (arrived : Arrived) → MayArrive given large s reading arrived → repos.MayArrive given.inbox s reading arrived
-arrives_repo given large s readings.Nothing arrived h = h
-arrives_repo given large s (readings.Folder name folder) arrived h = h
-arrives_repo given large s (readings.Mirror name) arrived h = h
+pub arrives_repo : (given : Given) (large : Option (List ℕ)) (s : StateView) (reading : Reading) (arrived : Arrived) → NoArchive reading → MayArrive given large s reading arrived → repos.MayArrive given.inbox s reading arrived
+arrives_repo given large s readings.Nothing arrived none h = h
+arrives_repo given large s (readings.Folder name folder) arrived none h = h
+arrives_repo given large s (readings.Mirror name) arrived none h = absurd none
+
+-- what may arrive for a command of mirrors
+pub arrives_mirror : (given : Given) (large : Option (List ℕ)) (s : StateView) (reading : Reading) (arrived : Arrived) → MayArrive given large s reading arrived → mirrors.MayArrive given.inbox s reading arrived
+arrives_mirror given large s readings.Nothing arrived h = tt
+arrives_mirror given large s (readings.Folder name folder) arrived h = tt
+arrives_mirror given large s (readings.Mirror name) arrived h = (large, h)
 
 -- which of these commands it is
 abbrev case_in : StateView → PlainCommand → Case

@@ -16,8 +16,8 @@ use Rattle.repo_packages.proofs.PackageLaws.{add_law, copy_law, import_law, move
 use Rattle.local_repo.proofs.LawfulLemmas as repos
 use Rattle.package_intake.proofs.TotalLemmas.{some_arrives}
 use Rattle.machine_step.specs.Causes.{IsCause, IsUnbuilt}
-use Rattle.step_model.specs.Refuses.{IsReadable}
-use Rattle.machine_step.specs.Step.{Given, Step, StepWith, case_of, read_for, refused}
+use Rattle.mirror_update.proofs.LawLemmas.{some_updates}
+use Rattle.machine_step.specs.Step.{CanBeRead, Given, Step, StepWith, case_of, read_for, refused}
 use Rattle.machine_step.proofs.CaseLemmas as cases
 use Rattle.machine_step.proofs.CaseLemmas.{RepoLaw, RepoReads}
 use Rattle.machine_step.proofs.LawLemmas.{valid_step, total_step, refuses_step, says_refusal, says_step, plain_step, knows_step, cause_step, unbuilt_step}
@@ -30,10 +30,10 @@ repo_reads = repos.repo_reads (add_law (arrives_fit listed_packages)) remove_law
 
 module _ (given : Given) (large : Option (List ℕ)) (state : StateView) (c : PlainCommand) where
   pub total : (outcome : Outcome StateView Refusal) × Step given large state c outcome
-  total = total_step repo_reads some_arrives given large state c
+  total = total_step some_arrives some_updates given large state c
 
   pub refuses : (refusal : Refusal) → Refuses large (case_of given.now state c) (Some refusal) → Step given large state c (refused state refusal)
-  refuses = refuses_step repo_reads some_arrives given large state c
+  refuses = refuses_step some_arrives some_updates given large state c
 
   module _ (outcome : Outcome StateView Refusal) where
     pub valid : Valid state → Step given large state c outcome → Valid outcome.state
@@ -46,16 +46,16 @@ module _ (given : Given) (large : Option (List ℕ)) (state : StateView) (c : Pl
     says_refusal_of = says_refusal given large state c outcome
 
     pub cause : (refusal : Refusal) → Step given large state c outcome → outcome.refusal ≡ Some refusal → IsCause given.now large state c refusal
-    cause = cause_step repo_law given large state c outcome
+    cause = cause_step repo_law repo_reads given large state c outcome
 
     pub unbuilt : IsUnbuilt c → Step given large state c outcome → outcome.refusal ≡ Some NotBuilt
     unbuilt = unbuilt_step given large state c outcome
 
 pub plain : (given : Given) (large other : Option (List ℕ)) (state : StateView) (c : PlainCommand) (outcome : Outcome StateView Refusal) → outcome.refusal ≡ None → Step given large state c outcome → Step given other state c outcome
-plain = plain_step
+plain = plain_step repo_reads
 
 pub knows : (now : ℤ) (large : Option (List ℕ)) (state : StateView) (c : PlainCommand) (arrived : Arrived) (outcome : Outcome StateView Refusal) → StepWith now large state c arrived outcome → IsFrom state arrived outcome.state
 knows = knows_step repo_law
 
-pub readable : (now : ℤ) (state : StateView) (c : PlainCommand) → IsReadable (read_for now state c)
+pub readable : (now : ℤ) (state : StateView) (c : PlainCommand) → CanBeRead (case_of now state c) (read_for now state c)
 readable = cases.readable repo_reads

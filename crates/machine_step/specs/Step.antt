@@ -1,5 +1,5 @@
 -- One step of the machine: what a command comes to in a state.
-use Rattle.std.specs.Prelude.{◌≡◌, ℕ, ℤ, List, [], ◌∷◌, Option, None}
+use Rattle.std.specs.Prelude.{◌≡◌, ℕ, ℤ, List, [], ◌∷◌, ◌++◌, Option, Some, None}
 use Rattle.ap_host.specs.Disk.{Files}
 use Rattle.package_core.specs.Card.{Card}
 use Rattle.run_model.specs.Run.{Outcome}
@@ -7,15 +7,17 @@ use Rattle.command_words.specs.Plain.{PlainCommand, OtherCommand, of_mirror, of_
 use Rattle.machine_state.specs.declared.refusal.Refusal.{Refusal}
 use Rattle.machine_state.specs.declared.arrived.Arrived.{Arrived}
 use Rattle.machine_state.specs.declared.arrived.Arrived.TheVariants as arrivals
-use Rattle.machine_state.specs.Values.{StateView}
+use Rattle.machine_state.specs.State.{mirror_of}
+use Rattle.machine_state.specs.Values.{MirrorView, StateView}
 use Rattle.step_model.specs.declared.reading.Reading.{Reading}
 use Rattle.step_model.specs.declared.reading.Reading.TheVariants as readings
-use Rattle.step_model.specs.Case.{Case, changes, unbuilt, bad_queries, conditions_of}
-use Rattle.step_model.specs.Refuses.{reading}
+use Rattle.step_model.specs.Case.{Case, Condition, changes, refuses, unbuilt, bad_queries, conditions_of}
+use Rattle.step_model.specs.Refuses.{IsReadable, reading}
 use Rattle.step_model.specs.Steps as steps
 use Rattle.step_model.specs.Queries.{found_by}
 use Rattle.package_intake.specs.Answers.{IsArrival}
-use Rattle.mirror_ops.specs.Cases.{mirror_case}
+use Rattle.mirror_update.specs.Filter as filters
+use Rattle.mirror_ops.specs.Cases.{ArchiveArrives, mirror_case}
 use Rattle.local_repo.specs.Cases.{repo_case}
 use Rattle.snapshot_ops.specs.Cases.{snapshot_case}
 use Rattle.reply_text.specs.Refusals.{refusal_line}
@@ -60,7 +62,7 @@ case_of now state command = unbuilt
 abbrev pub MayArrive : Given → Option (List ℕ) → StateView → Reading → Arrived → Type 0
 MayArrive given large state readings.Nothing arrived = arrived ≡ arrivals.Nothing
 MayArrive given large state (readings.Folder name folder) arrived = IsArrival given.inbox state name folder arrived
-MayArrive given large state (readings.Mirror name) arrived = ⊥
+MayArrive given large state (readings.Mirror name) arrived = ArchiveArrives large given.inbox state name arrived
 
 abbrev pub refused : StateView → Refusal → Outcome StateView Refusal
 refused = steps.refused refusal_line
@@ -72,6 +74,25 @@ StepWith now large state command arrived outcome = steps.StepWith refusal_line l
 -- what is read for the command, where its patterns are built
 abbrev pub read_for : ℤ → StateView → PlainCommand → Reading
 read_for now state command = reading (case_of now state command)
+
+-- What is read for a command can be read. One that reads an archive has no conditions of its own, and is refused so where the archive is.
+abbrev pub CanBeRead : Case → Reading → Type 0
+CanBeRead case (readings.Mirror name) = (case.conditions ≡ []) × ((refusal : Refusal) → case.comes (arrivals.Refused refusal) ≡ refuses refusal)
+CanBeRead case reading = IsReadable reading
+
+-- the `~` conditions of the filter of this mirror
+abbrev pub filter_conditions : Option MirrorView → List Condition
+filter_conditions None = []
+filter_conditions (Some mirror) = filters.conditions_of mirror
+
+-- the `~` conditions by which what is read is chosen: those of a mirror's filter
+abbrev pub read_conditions : StateView → Reading → List Condition
+read_conditions state (readings.Mirror name) = filter_conditions (mirror_of name state.mirrors)
+read_conditions state reading = []
+
+-- all that a command asks: its own conditions, and those by which what it reads is chosen
+abbrev pub asked_conditions : ℤ → StateView → PlainCommand → List Condition
+asked_conditions now state command = (case_of now state command).conditions ++ read_conditions state (read_for now state command)
 
 -- what may arrive for the command
 abbrev pub ArrivesFor : Given → Option (List ℕ) → StateView → PlainCommand → Arrived → Type 0

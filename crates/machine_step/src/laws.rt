@@ -11,8 +11,7 @@ ghost use Rattle.reply_text.specs.Refusals.{refusal_line};
 ghost use Rattle.step_model.specs.Lawful.{IsFrom};
 ghost use Rattle.step_model.specs.Refuses.{Refuses};
 ghost use Rattle.machine_step.specs.Causes.{IsCause, IsUnbuilt};
-ghost use Rattle.step_model.specs.Refuses.{IsReadable};
-ghost use Rattle.machine_step.specs.Step.{case_of, Given, read_for, refused, Step, StepWith};
+ghost use Rattle.machine_step.specs.Step.{CanBeRead, case_of, Given, read_for, refused, Step, StepWith};
 
 use local_repo::repo_cases_are_lawful;
 use package_intake::arrivals_fit;
@@ -39,7 +38,7 @@ pub fn laws_of_steps()
     // A command that isn't built is refused so.
     ensures unbuilt { (given : Given) (large : Option (List ℕ)) (state : StateView) (command : PlainCommand) (outcome : Outcome StateView Refusal) → IsUnbuilt command → Step given large state command outcome → outcome.refusal ≡ Some NotBuilt }
     // What is to be read can be read.
-    ensures reads { (now : ℤ) (state : StateView) (command : PlainCommand) → IsReadable (read_for now state command) }
+    ensures reads { (now : ℤ) (state : StateView) (command : PlainCommand) → CanBeRead (case_of now state command) (read_for now state command) }
 {
     arrivals_fit();
     repo_cases_are_lawful();

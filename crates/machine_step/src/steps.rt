@@ -32,7 +32,7 @@ fn change_of<M: Patterns>(
     match family_of(command) {
         Family::Repo => local_repo::change(alloc, state, command, arrived, patterns),
         Family::Snapshot => snapshot_ops::change(alloc, state, command, patterns),
-        Family::Mirror => mirror_ops::change(alloc, state, command, patterns),
+        Family::Mirror => mirror_ops::change(alloc, state, command, arrived, patterns),
         Family::Other => package_change(alloc, state, command, patterns),
         _ => Err(ChangeFault::Refused(Refusal::NotBuilt)),
     }

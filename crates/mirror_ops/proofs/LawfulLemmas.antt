@@ -97,7 +97,7 @@ nothing_read case false = tt
 
 archive_read : (state : StateView) (name : List ℕ) (b : Bool) → ReadsArchive (update_case state name) (if b then readings.Nothing else readings.Mirror name)
 archive_read state name true = tt
-archive_read state name false = refl
+archive_read state name false = (refl, λ refusal. refl)
 
 pub mirror_reads : (state : StateView) (c : MirrorCommand) → ReadsArchive (mirror_case state c) (reading (mirror_case state c))
 unfolding mirror_case

@@ -130,10 +130,10 @@ MayArrive inbox state reading arrived = Unit {0}
 abbrev pub ArrivesFor : Option Files → StateView → Case → Arrived → Type 0
 ArrivesFor inbox state case arrived = MayArrive inbox state (reading case) arrived
 
--- a command of mirrors reads nothing, or an archive, and has no conditions of its own then
+-- A command of mirrors reads nothing, or an archive. It has no conditions of its own then, and is refused so where the archive is.
 abbrev pub ReadsArchive : Case → Reading → Type 0
 ReadsArchive case readings.Nothing = Unit {0}
-ReadsArchive case (readings.Mirror name) = case.conditions ≡ []
+ReadsArchive case (readings.Mirror name) = (case.conditions ≡ []) × ((refusal : Refusal) → case.comes (arrivals.Refused refusal) ≡ refuses refusal)
 ReadsArchive case (readings.Folder name folder) = ⊥
 
 -- ---- of which verb a command is
