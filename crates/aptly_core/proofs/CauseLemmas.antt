@@ -8,7 +8,7 @@ use Rattle.machine_state.specs.declared.refusal.Refusal.TheVariants.{NotBuilt, B
 use Rattle.machine_state.specs.Values.{StateView}
 use Rattle.step_model.specs.Refuses.{IsPatternRefusal}
 use Rattle.machine_step.specs.Causes.{IsUnbuilt}
-use Rattle.machine_step.specs.Step.{Given, case_of}
+use Rattle.machine_step.specs.Step.{Given, asked_conditions}
 use Rattle.machine_step.proofs.StepLaws.{cause, unbuilt}
 use Rattle.aptly_core.specs.declared.status.Status.{Status}
 use Rattle.aptly_core.specs.declared.status.Status.TheVariants as statuses
@@ -18,7 +18,7 @@ use Rattle.aptly_core.specs.Machine.{machine, Steps}
 use Rattle.aptly_core.specs.Runs.{EndsWith, EndsFrom, IsEnd}
 
 -- the condition that is told is one of the command, and those before it are patterns
-has_condition : (now : ℤ) (large : Option (List ℕ)) (s : StateView) (c : PlainCommand) (query test : ℕ) (refusal : Refusal) (told : IsPatternRefusal large (case_of now s c).conditions refusal) → query ≡ told.condition.query → test ≡ told.condition.test → HasCondition query test told.condition.text c
+has_condition : (now : ℤ) (large : Option (List ℕ)) (s : StateView) (c : PlainCommand) (query test : ℕ) (refusal : Refusal) (told : IsPatternRefusal large (asked_conditions now s c) refusal) → query ≡ told.condition.query → test ≡ told.condition.test → HasCondition query test told.condition.text c
 has_condition now large s c query test refusal told q t =
     (now, s, told.before, told.behind, told.split ∙ (λ i. told.before ++ record { query = sym q i; test = sym t i; text = told.condition.text } ∷ told.behind), told.read)
 

@@ -1,5 +1,5 @@
 -- What the deciding of a command adds to the log: the files that it takes in.
-use Rattle.std.specs.Prelude.{◌≡◌, List, [], All, Option, Result, Ok, Err, IfOk, IfSome}
+use Rattle.std.specs.Prelude.{◌≡◌, ℤ, List, [], All, Option, Result, Ok, Err, IfOk, IfSome}
 use Rattle.ap_host.specs.declared.host.Op.{Op}
 use Rattle.ap_host.specs.Disk.{Files, Log, extended, live_of}
 use Rattle.stage_file.specs.Stage.{StageState, IsInStep}
@@ -11,7 +11,7 @@ use Rattle.machine_state.specs.declared.arrived.UpdateFault.TheVariants as updat
 use Rattle.machine_state.specs.Values.{StateView}
 use Rattle.command_words.specs.Plain.{PlainCommand}
 use Rattle.machine_step.specs.declared.outcome.Outcome.{Outcome}
-use Rattle.machine_step.specs.Step.{Given, read_for}
+use Rattle.machine_step.specs.Step.{Given, NoArchive, read_for}
 use Rattle.step_model.specs.declared.reading.Reading.{Reading}
 use Rattle.step_model.specs.declared.reading.Reading.TheVariants as readings
 use Rattle.step_model.specs.Lawful.{list_in}
@@ -36,6 +36,14 @@ pub record Arrives (input : Option Files) (state : StateView) (reading : Reading
   pub step : IsInStep before l → IsInStep now (extended ops l)
   pub apart : BodiesApart input (live_of l) → BodiesApart input (live_of (extended ops l))
   pub bodies : IfOk result (λ arrived. Stored (live_of l) state → BodiesApart input (live_of l) → All (HasBody (live_of (extended ops l))) (list_in arrived))
+
+-- the reading is that of the command
+abbrev pub IsReading : ℤ → StateView → PlainCommand → Reading → Type 0
+IsReading now state command reading = reading ≡ read_for now state command
+
+-- the same of a reading of no archive
+abbrev pub ReadsSo : ℤ → StateView → PlainCommand → Reading → Type 0
+ReadsSo now state command reading = NoArchive reading × IsReading now state command reading
 
 -- Files were taken into the pool, all that the new state knows among them; none where the command reads nothing. This is for a
 -- command of which Fits holds.

@@ -1,5 +1,7 @@
 -- What arrives of the archive of a mirror.
-use Rattle.std.proofs.Common.{◌≡◌, ◌⊎◌, ◌×◌, ℕ, List, [], ◌∷◌, ◌++◌, Option, Some, None, Result, Ok, Err, inl, inr, refl, sym, ap, subst, ◌∙◌, append_assoc}
+use Rattle.std.specs.Bool.{if◌then◌else◌}
+use Rattle.std.specs.Option.{is_some}
+use Rattle.std.proofs.Common.{◌≡◌, ◌⊎◌, ℕ, List, [], ◌∷◌, ◌++◌, Option, Some, None, Result, Ok, Err, inl, inr, refl, sym, ap, subst, ◌∙◌, arith, append_assoc}
 use Rattle.ap_host.specs.Disk.{Files}
 use Rattle.package_core.specs.Card.{Card}
 use Rattle.run_model.specs.Run.{Outcome}
@@ -11,17 +13,22 @@ use Rattle.machine_state.specs.declared.limit.Limit.{Limit as LimitKind}
 use Rattle.machine_state.specs.declared.limit.Limit.TheVariants as limits
 use Rattle.machine_state.specs.declared.refusal.Refusal.{Refusal}
 use Rattle.machine_state.specs.declared.refusal.Refusal.TheVariants.{NotBuilt, BadPattern, PatternTooLarge, Limit, Unknown}
+use Rattle.machine_state.specs.State.{mirror_of}
 use Rattle.machine_state.specs.Values.{MirrorView, StateView}
-use Rattle.step_model.specs.Case.{Case, Condition, refuses}
+use Rattle.command_words.specs.Plain.{PlainCommand}
+use Rattle.reply_text.specs.Refusals.{refusal_line}
+use Rattle.step_model.specs.declared.reading.Reading.{Reading}
+use Rattle.step_model.specs.declared.reading.Reading.TheVariants as readings
+use Rattle.step_model.specs.Case.{Case, Condition, or_else, refuses}
 use Rattle.step_model.specs.Lawful.{IsOwn}
-use Rattle.step_model.specs.Refuses.{IsPatternRefusal, IsPick}
+use Rattle.step_model.specs.Refuses.{ArePatterns, IsPatternRefusal, IsPick, reading}
 use Rattle.step_model.specs.Steps as steps
 use Rattle.package_intake.specs.Faults.{IsInputRefusal}
 use Rattle.mirror_update.specs.Answers.{FilesArrive, IsArchiveRefusal, IsArrival, PickArrives, Updates}
 use Rattle.mirror_update.specs.Arrival.{Arrives}
 use Rattle.mirror_update.specs.Filter.{conditions_of}
 use Rattle.mirror_ops.specs.Cases.{MirrorArrives}
-use Rattle.machine_step.specs.Step.{filter_conditions}
+use Rattle.machine_step.specs.Step.{CanBeRead, Given, MayArrive, Step, case_of, filter_conditions, read_for, refused}
 
 -- ---- what was fetched hangs on no text that was too large
 
@@ -122,3 +129,39 @@ pattern_more large conditions more refusal p = record {
 -- where there are no others, those that are read with are all
 pub pattern_read : (large : Option (List ℕ)) (conditions more : List Condition) (refusal : Refusal) → conditions ≡ [] → IsPatternRefusal large more refusal → IsPatternRefusal large (conditions ++ more) refusal
 pattern_read large conditions more refusal e p = subst (λ (l : List Condition). IsPatternRefusal large (l ++ more) refusal) (sym e) p
+
+-- ---- a step with an archive
+
+-- a command for which an archive is read isn't refused before
+read_passes : (case : Case) (name : List ℕ) → reading case ≡ readings.Mirror name → or_else case.early case.late ≡ None
+read_passes case name = by_first (or_else case.early case.late)
+  where
+    by_first : (o : Option Refusal) → (if is_some o then readings.Nothing else case.reads) ≡ readings.Mirror name → o ≡ None
+    by_first None e = refl
+    by_first (Some refusal) e = absurd (no e)
+      where
+        no : readings.Nothing ≡ readings.Mirror name → ⊥
+        no e = cc
+
+-- where the archive is refused the command is
+pub refused_archive : (given : Given) (large : Option (List ℕ)) (state : StateView) (c : PlainCommand) (name : List ℕ) (refusal : Refusal) → readings.Mirror name ≡ read_for given.now state c → CanBeRead (case_of given.now state c) (readings.Mirror name)
+    → MayArrive given large state (readings.Mirror name) (arrivals.Refused refusal) → Step given large state c (refused state refusal)
+refused_archive given large state c name refusal is can may =
+    let case = case_of given.now state c in
+    (arrivals.Refused refusal, subst (λ (r : Reading). MayArrive given large state r (arrivals.Refused refusal)) is may, record {
+      refusal = None;
+      refuses = record {
+        pick = None;
+        legal = λ early. subst (λ (l : List Condition). ArePatterns l) (sym can.0) none_asked;
+        first = sym (read_passes case name (sym is));
+      };
+      comes = ap (steps.outcome_of refusal_line state) (sym (can.1 refusal));
+    })
+  where
+    none_asked : ArePatterns []
+    none_asked k d lt = absurd (omega (arith, lt))
+
+-- what arrived of it and isn't refused hangs on no text that was too large
+pub archive_any : (given : Given) (large other : Option (List ℕ)) (state : StateView) (name : List ℕ) (arrived : Arrived) → ((refusal : Refusal) → arrived ≡ arrivals.Refused refusal → ⊥)
+    → MayArrive given large state (readings.Mirror name) arrived → MayArrive given other state (readings.Mirror name) arrived
+archive_any given large other state name arrived none h = any_mirror large other given.inbox state name (mirror_of name state.mirrors) arrived none h

@@ -24,7 +24,7 @@ use Rattle.local_repo.specs.Cases.{repo_case}
 use Rattle.snapshot_ops.specs.Cases.{snapshot_case}
 use Rattle.machine_step.specs.Answers.{KeepsUnlessTold}
 use Rattle.machine_step.specs.Family.{family}
-use Rattle.machine_step.specs.Step.{Given, MayArrive, asking, case_of, other_case}
+use Rattle.machine_step.specs.Step.{Given, MayArrive, NoArchive, asking, case_of, other_case}
 use Rattle.machine_step.specs.declared.family.Family.TheVariants as families
 
 pub is_repo : (c : PlainCommand) → family c ≡ families.Repo → (r : RepoCommand) × (c ≡ of_repo r)
@@ -79,11 +79,6 @@ case_of_rest now s (of_snapshot c) a b m d = absurd (b refl)
 case_of_rest now s (of_mirror c) a b m d = absurd (m refl)
 case_of_rest now s (of_publish c) a b m d = refl
 case_of_rest now s (of_other c) a b m d = absurd (d refl)
-
--- no archive is read
-abbrev pub NoArchive : Reading → Type 0
-NoArchive (readings.Mirror name) = ⊥
-NoArchive reading = Unit {0}
 
 -- a command of repositories reads no archive
 pub repo_reads_none : (s : StateView) (c : RepoCommand) → NoArchive (repo_case s c).reads

@@ -80,6 +80,11 @@ abbrev pub CanBeRead : Case → Reading → Type 0
 CanBeRead case (readings.Mirror name) = (case.conditions ≡ []) × ((refusal : Refusal) → case.comes (arrivals.Refused refusal) ≡ refuses refusal)
 CanBeRead case reading = IsReadable reading
 
+-- no archive is read
+abbrev pub NoArchive : Reading → Type 0
+NoArchive (readings.Mirror name) = ⊥
+NoArchive reading = Unit {0}
+
 -- the `~` conditions of the filter of this mirror
 abbrev pub filter_conditions : Option MirrorView → List Condition
 filter_conditions None = []

@@ -9,8 +9,8 @@ use Rattle.step_model.specs.Refuses.{reading}
 use Rattle.step_model.proofs.RefusalLemmas.{refuses_first}
 use Rattle.repo_packages.specs.PackageCases as repos
 use Rattle.mirror_ops.specs.Cases as mirrors
-use Rattle.machine_step.specs.Step.{case_of, giving, read_for}
-use Rattle.machine_step.proofs.FamilyLemmas.{is_repo, is_snapshot, is_mirror, is_other, case_of_repo, case_of_snapshot, case_of_mirror, case_of_other, case_of_rest, arrives_mirror, arrives_repo, NoArchive, repo_reads_no_archive}
+use Rattle.machine_step.specs.Step.{NoArchive, case_of, giving, read_for}
+use Rattle.machine_step.proofs.FamilyLemmas.{is_repo, is_snapshot, is_mirror, is_other, case_of_repo, case_of_snapshot, case_of_mirror, case_of_other, case_of_rest, arrives_mirror, arrives_repo, repo_reads_no_archive}
 use Rattle.step_model.proofs.FaultLemmas.{ok_told}
 use Rattle.machine_step.proofs.steps.change_of.Goals as goal
 
