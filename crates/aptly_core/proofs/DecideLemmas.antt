@@ -17,9 +17,9 @@ use Rattle.machine_state.specs.declared.arrived.Arrived.{Arrived}
 use Rattle.machine_state.specs.declared.arrived.Arrived.TheVariants as arrivals
 use Rattle.machine_state.specs.declared.arrived.UpdateFault.{UpdateFault}
 use Rattle.machine_state.specs.declared.arrived.UpdateFault.TheVariants as updates
-use Rattle.machine_state.specs.State.{Valid}
-use Rattle.machine_state.specs.Values.{StateView}
-use Rattle.package_intake.specs.Answers.{IsArrival, Comes, Adds, IfList}
+use Rattle.machine_state.specs.State.{Valid, mirror_of}
+use Rattle.machine_state.specs.Values.{MirrorView, StateView}
+use Rattle.package_intake.specs.Answers.{IsArrival, Comes, AddsNamed, IfList}
 use Rattle.package_intake.specs.Additions.{Fills}
 use Rattle.hash_pool.specs.Bodies.{HasBody, IsMet, DigestsApart}
 use Rattle.reply_text.specs.Refusals.{refusal_line}
@@ -27,14 +27,17 @@ use Rattle.step_model.specs.declared.reading.Reading.{Reading}
 use Rattle.step_model.specs.declared.reading.Reading.TheVariants as readings
 use Rattle.step_model.specs.Answers.{IsTold, Told}
 use Rattle.step_model.specs.Lawful.{list_in}
+use Rattle.step_model.specs.Case.{Case}
 use Rattle.step_model.specs.Refuses.{Refuses}
 use Rattle.machine_step.specs.declared.outcome.Outcome.{Outcome as Made}
 use Rattle.machine_step.specs.Answers.{seen}
 use Rattle.step_model.specs.Refuses.{IsReadable}
-use Rattle.machine_step.specs.Step.{Given, MayArrive, Step, StepWith, case_of, read_for}
+use Rattle.mirror_update.specs.Answers.{Brings, Updates}
+use Rattle.mirror_ops.specs.Cases.{MirrorArrives}
+use Rattle.machine_step.specs.Step.{CanBeRead, Given, MayArrive, NoArchive, Step, StepWith, case_of, read_for}
 use Rattle.machine_step.proofs.StepLaws.{knows, readable, refuses}
 use Rattle.aptly_core.specs.declared.fault.RunFault.{RunFault}
-use Rattle.aptly_core.specs.Arrives.{Arrives, Decides, arrived_of}
+use Rattle.aptly_core.specs.Arrives.{Arrives, Decides, IsReading, arrived_of}
 use Rattle.aptly_core.specs.Apart.{BodiesApart}
 use Rattle.catalogue_root.specs.Store.{Stored}
 
@@ -47,6 +50,16 @@ step_none st l w = subst (IsInStep st) (sym (extended-none l)) w
 
 pub arrives_nothing : (input : Option Files) (s : StateView) (reading : Reading) (st : StageState) (l : Log) → Arrives input s reading st st (Ok arrivals.Nothing) l []
 arrives_nothing input s reading st l = record {
+  grows = grows_none l;
+  nothing = λ is. refl;
+  step = step_none st l;
+  apart = apart_none input l;
+  bodies = λ stored apart k d lt. absurd (omega (arith, lt));
+}
+
+-- a mirror isn't there
+pub arrives_refused : (input : Option Files) (s : StateView) (reading : Reading) (st : StageState) (refusal : Refusal) (l : Log) → Arrives input s reading st st (Ok (arrivals.Refused refusal)) l []
+arrives_refused input s reading st refusal l = record {
   grows = grows_none l;
   nothing = λ is. refl;
   step = step_none st l;
@@ -67,7 +80,7 @@ decides_refused Fits given s c st out none l = record {
   bodies = λ fits stored apart. subst (λ (x : Option StateView). IfSome x (λ t. All (HasBody (live_of (extended [] l))) t.known)) (sym none) tt;
 }
 
--- ---- a folder was read
+-- ---- a folder or an archive was read
 abbrev pub HoldsOf : Option Files → StateView → Log → List Op → List Card → Type 0
 HoldsOf input s l ops list = (inbox : Files) → input ≡ Some inbox → IsNamed (live_of l) → All (HasBody (live_of l)) s.known → DigestsApart (live_of l) inbox → All (HasBody (live_of (extended ops l))) list
 
@@ -79,8 +92,8 @@ met_before inbox l ops fills bytes (inl w) = elim (fills w.0 w.1) [
   | inr new ↦ inr (new.0, new.2 ∙ sym new.4 ∙ w.2)
 ]
 
-pub arrives_added : (input : Option Files) (folder : Path) (s : StateView) (reading : Reading) → (reading ≡ readings.Nothing → ⊥) → (before now : StageState) (given : Result Arrived UpdateFault) (r : Result Arrived RunFault) → r ≡ arrived_of given → (l : Log) (ops : List Op) → Adds input folder s.known given before now l ops → Arrives input s reading before now r l ops
-arrives_added input folder s reading reads before now given r is l ops w = subst (λ v. Arrives input s reading before now v l ops) (sym is) (record {
+pub arrives_added : (AreNames : List Path → Type 0) (input : Option Files) (s : StateView) (reading : Reading) → (reading ≡ readings.Nothing → ⊥) → (before now : StageState) (given : Result Arrived UpdateFault) (r : Result Arrived RunFault) → r ≡ arrived_of given → (l : Log) (ops : List Op) → AddsNamed AreNames input s.known given before now l ops → Arrives input s reading before now r l ops
+arrives_added AreNames input s reading reads before now given r is l ops w = subst (λ v. Arrives input s reading before now v l ops) (sym is) (record {
   grows = w.grows;
   nothing = λ is. absurd (reads is);
   step = w.step;
@@ -145,15 +158,11 @@ stays_all l ops ps grows all k d lt =
 reads_nothing : (now : ℤ) (s : StateView) (c : PlainCommand) (reading : Reading) → reading ≡ read_for now s c → read_for now s c ≡ readings.Nothing → reading ≡ readings.Nothing
 reads_nothing now s c reading is none = is ∙ none
 
--- the reading is that of the command
-abbrev pub IsReading : ℤ → StateView → PlainCommand → Reading → Type 0
-IsReading now s c reading = reading ≡ read_for now s c
-
 -- what arrived was decided on
-pub decides_so : (reading : Reading) (given : Given) (s : StateView) (c : PlainCommand) (before now : StageState) (arrived : Arrived) (out : Made) → (IsReading given.now s c reading → Valid s → (large : Option (List ℕ)) × StepWith given.now large s c arrived (seen s out)) → (l : Log) (ops : List Op) → Arrives given.inbox s reading before now (Ok arrived) l ops → Decides (IsReading given.now s c reading) given s c before now (Ok out) l ops
-decides_so reading given s c before now arrived out step l ops w = record {
+pub decides_so : (Fits : Type 0) (reading : Reading) (given : Given) (s : StateView) (c : PlainCommand) (before now : StageState) (arrived : Arrived) (out : Made) → (Fits → IsReading given.now s c reading) → (Fits → Valid s → (large : Option (List ℕ)) × StepWith given.now large s c arrived (seen s out)) → (l : Log) (ops : List Op) → Arrives given.inbox s reading before now (Ok arrived) l ops → Decides Fits given s c before now (Ok out) l ops
+decides_so Fits reading given s c before now arrived out so step l ops w = record {
   grows = w.grows;
-  nothing = λ fits none. w.nothing (reads_nothing given.now s c reading fits none);
+  nothing = λ fits none. w.nothing (reads_nothing given.now s c reading (so fits) none);
   step = w.step;
   apart = w.apart;
   bodies = λ fits stored apart. let went = step fits stored.held.valid in go out.state (known_all (HasBody (live_of (extended ops l))) given.now went.0 s c arrived (seen s out) went.1 (stays_all l ops s.known w.grows stored.bodies) (w.bodies stored apart));
@@ -164,23 +173,56 @@ decides_so reading given s c before now arrived out step l ops w = record {
     go (Some t) all = all
 
 -- it broke off behind what arrived
-pub decides_broke : (reading : Reading) (given : Given) (s : StateView) (c : PlainCommand) (before now : StageState) (came : Result Arrived RunFault) (r : Result Made RunFault) (e : RunFault) → r ≡ Err e → (l : Log) (ops : List Op) → Arrives given.inbox s reading before now came l ops → Decides (IsReading given.now s c reading) given s c before now r l ops
-decides_broke reading given s c before now came r e is l ops w = subst (λ v. Decides (IsReading given.now s c reading) given s c before now v l ops) (sym is) (record { grows = w.grows; nothing = λ fits none. w.nothing (reads_nothing given.now s c reading fits none); step = w.step; apart = w.apart; bodies = tt })
+pub decides_broke : (Fits : Type 0) (reading : Reading) (given : Given) (s : StateView) (c : PlainCommand) (before now : StageState) (came : Result Arrived RunFault) (r : Result Made RunFault) (e : RunFault) → (Fits → IsReading given.now s c reading) → r ≡ Err e → (l : Log) (ops : List Op) → Arrives given.inbox s reading before now came l ops → Decides Fits given s c before now r l ops
+decides_broke Fits reading given s c before now came r e so is l ops w = subst (λ v. Decides Fits given s c before now v l ops) (sym is) (record { grows = w.grows; nothing = λ fits none. w.nothing (reads_nothing given.now s c reading (so fits) none); step = w.step; apart = w.apart; bodies = tt })
 
--- the reading was that of the command
-pub decides_of : (Fits : Type 0) (given : Given) (s : StateView) (c : PlainCommand) (before now : StageState) (r : Result Made RunFault) → (Valid s → Fits) → (l : Log) (ops : List Op) → Decides Fits given s c before now r l ops → Decides (Valid s) given s c before now r l ops
-decides_of Fits given s c before now r fits l ops w = record { grows = w.grows; nothing = λ valid none. w.nothing (fits valid) none; step = w.step; apart = w.apart; bodies = go r w.bodies }
+-- what is so of a command of which the one holds is so of one of which the other does
+pub decides_of : (Fits Other : Type 0) (given : Given) (s : StateView) (c : PlainCommand) (before now : StageState) (r : Result Made RunFault) → (Other → Fits) → (l : Log) (ops : List Op) → Decides Fits given s c before now r l ops → Decides Other given s c before now r l ops
+decides_of Fits Other given s c before now r fits l ops w = record { grows = w.grows; nothing = λ valid none. w.nothing (fits valid) none; step = w.step; apart = w.apart; bodies = go r w.bodies }
   where
     go : (v : Result Made RunFault) → IfOk v (λ outcome. Fits → Stored (live_of l) s → BodiesApart given.inbox (live_of l) → IfSome outcome.state (λ next. All (HasBody (live_of (extended ops l))) next.known))
-        → IfOk v (λ outcome. Valid s → Stored (live_of l) s → BodiesApart given.inbox (live_of l) → IfSome outcome.state (λ next. All (HasBody (live_of (extended ops l))) next.known))
+        → IfOk v (λ outcome. Other → Stored (live_of l) s → BodiesApart given.inbox (live_of l) → IfSome outcome.state (λ next. All (HasBody (live_of (extended ops l))) next.known))
     go (Ok out) h = λ valid stored apart. h (fits valid) stored apart
     go (Err e) h = tt
 
 -- ---- what a command comes to
 
+-- what can be read and is no archive
+readable_of : (case : Case) (r : Reading) → NoArchive r → CanBeRead case r → IsReadable r
+readable_of case readings.Nothing none can = can
+readable_of case (readings.Folder name folder) none can = can
+readable_of case (readings.Mirror name) none can = absurd none
+
 -- what arrived may arrive for the command
-pub may_arrive : (given : Given) (large : Option (List ℕ)) (s : StateView) (c : PlainCommand) (reading : Reading) (arrived : Arrived) → reading ≡ read_for given.now s c → (IsReadable reading → MayArrive given large s reading arrived) → MayArrive given large s (read_for given.now s c) arrived
-may_arrive given large s c reading arrived is arrives = subst (λ (x : Reading). MayArrive given large s x arrived) is (arrives (subst IsReadable (sym is) (readable given.now s c)))
+pub may_arrive : (given : Given) (large : Option (List ℕ)) (s : StateView) (c : PlainCommand) (reading : Reading) (arrived : Arrived) → NoArchive reading → reading ≡ read_for given.now s c → (IsReadable reading → MayArrive given large s reading arrived) → MayArrive given large s (read_for given.now s c) arrived
+may_arrive given large s c reading arrived none is arrives =
+    subst (λ (x : Reading). MayArrive given large s x arrived) is
+    (arrives (readable_of (case_of given.now s c) reading none (subst (CanBeRead (case_of given.now s c)) (sym is) (readable given.now s c))))
+
+-- it is no archive
+pub no_archive : (r : Reading) → ((name : List ℕ) → r ≡ readings.Mirror name → ⊥) → NoArchive r
+no_archive readings.Nothing h = tt
+no_archive (readings.Folder name folder) h = tt
+no_archive (readings.Mirror name) h = absurd (h name refl)
+
+-- what an update brings may arrive of the archive of the mirror
+pub archive_may : (large : Option (List ℕ)) (inbox : Option Files) (s : StateView) (mirror : MirrorView) (name : List ℕ) (given : Result Arrived UpdateFault) → Brings (Updates large inbox s mirror) given → IfOk (arrived_of given) (MirrorArrives large inbox s name (Some mirror))
+archive_may large inbox s mirror name (Ok (arrivals.List list date)) h = h
+archive_may large inbox s mirror name (Ok arrivals.Nothing) h = absurd h
+archive_may large inbox s mirror name (Ok (arrivals.Refused refusal)) h = absurd h
+archive_may large inbox s mirror name (Err (updates.Refused refusal)) h = h
+archive_may large inbox s mirror name (Err updates.HostFault) h = tt
+archive_may large inbox s mirror name (Err updates.InboxFault) h = tt
+archive_may large inbox s mirror name (Err updates.OutOfMemory) h = tt
+
+-- the same of a call to which a pattern builder was handed in
+pub fetched_may : (old new : ℕ) (refused : Option (List ℕ)) (given : Given) (s : StateView) (name : List ℕ) (mirror : MirrorView) (update : Result Arrived UpdateFault) (r : Result Arrived RunFault) → r ≡ arrived_of update → mirror_of name s.mirrors ≡ Some mirror
+    → Told old new refused (λ large. Brings (Updates large given.inbox s mirror) update) → IfOk r (λ arrived. Told old new refused (λ large. MayArrive given large s (readings.Mirror name) arrived))
+fetched_may old new refused given s name mirror update r is found told = subst (λ v. IfOk v (λ arrived. Told old new refused (λ large. MayArrive given large s (readings.Mirror name) arrived))) (sym is) (by_result (arrived_of update) (archive_may told.0 given.inbox s mirror name update told.2))
+  where
+    by_result : (v : Result Arrived RunFault) → IfOk v (MirrorArrives told.0 given.inbox s name (Some mirror)) → IfOk v (λ arrived. Told old new refused (λ large. MayArrive given large s (readings.Mirror name) arrived))
+    by_result (Ok arrived) h = (told.0, told.1, subst (λ (o : Option MirrorView). MirrorArrives told.0 given.inbox s name o arrived) (sym found) h)
+    by_result (Err fault) h = tt
 
 -- a command that is refused before anything is read comes to its refusal
 pub refused_early : (given : Given) (old new : ℕ) (large : Option (List ℕ)) (s : StateView) (c : PlainCommand) (r : Refusal) (out : Made) → out ≡ record { state = None; reply = refusal_line r; refusal = Some r } → Told old new large (λ text. Refuses text (case_of given.now s c) (Some r))

@@ -21,7 +21,7 @@ pub returns-in-Ok-clause-changed : goal.returns-in-Ok-clause-changed
 returns-in-Ok-clause-changed g c valid = c.decide_with.ensures.changed valid (c.in-Ok.ensures.ok c.args.now.now valid).1
 
 pub returns-in-Ok-clause-log : goal.returns-in-Ok-clause-log
-returns-in-Ok-clause-log g c = GoesOn-map _ _ _ _ c.decide_with.ensures.log (λ l a w. decides_of _ _ _ _ _ _ _ (λ valid. (c.in-Ok.ensures.ok c.args.now.now valid).1) l a w)
+returns-in-Ok-clause-log g c = GoesOn-map _ _ _ _ c.decide_with.ensures.log (λ l a w. decides_of _ _ _ _ _ _ _ _ (λ valid. (c.in-Ok.ensures.ok c.args.now.now valid).1) l a w)
 
 pub returns-in_ok-refused-in-Err-Refused-clause-comes : goal.returns-in_ok-refused-in-Err-Refused-clause-comes
 returns-in_ok-refused-in-Err-Refused-clause-comes g c valid = refused_early (giving (g.I.Inbox.map c.args.inbox.now) c.args.now.now) _ _ _ _ (plain c.args.command.now) c.in-Err-Refused.refusal _ c.in_ok-refused-in-Err-Refused.ensures (subst (FaultIs (λ refusal. Told (g.M.Patterns.refusals c.args.patterns.now) (g.M.Patterns.refusals c.need.new.patterns) (g.M.Patterns.refused c.need.new.patterns) (λ large. Refuses large (case_of c.args.now.now c.args.state.now (plain c.args.command.now)) (Some refusal)))) c.in-Err-Refused.field-0-is (c.in-Err-Refused.ensures.fault c.args.now.now valid))
