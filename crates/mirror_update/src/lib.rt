@@ -1,0 +1,11 @@
+//! An archive arrives for a mirror: its Release, the indexes that are wanted of it, and the files of the packages that the filter chooses.
+#![tactic(auto)]
+
+mod arrive;
+mod filter;
+mod indexes;
+mod release;
+mod wanted;
+
+pub use arrive::update;
+pub use release::fetch_release;
