@@ -235,13 +235,5 @@ pub fn update<H: Host, I: Inbox, M: Patterns>(
     ensures kept { KeepsText (M.refused patterns.old) (M.refused patterns.new) result }
 {
     let queries = prepared(alloc, mirror, patterns)?;
-    take_archive(
-        alloc,
-        host,
-        stage,
-        inbox,
-        &state.known,
-        mirror,
-        &queries,
-    )
+    take_archive(alloc, host, stage, inbox, &state.known, mirror, &queries)
 }

@@ -136,12 +136,7 @@ pub fn read_index<I: Inbox>(
 }
 
 /// The bytes, where they don't differ from what is stated of them.
-fn agreed(
-    alloc: Global,
-    path: &SafePath,
-    said: &Said,
-    bytes: Bytes,
-) -> Result<Bytes, UpdateFault>
+fn agreed(alloc: Global, path: &SafePath, said: &Said, bytes: Bytes) -> Result<Bytes, UpdateFault>
     ensures answer { Gives result (or_differs path.now bytes (difference said.now (facts_of_bytes bytes))) }
     ensures same { IfOk result (λ read. difference said.now (facts_of_bytes read) ≡ None) }
     ensures fault { IfErr result IsOwnFault }

@@ -144,5 +144,14 @@ pub fn take_all<H: Host, I: Inbox>(
     ensures cause { CauseOf HostFault (H.faults host.old) (H.faults host.new) result }
     ensures input { CauseOf InboxFault (I.faults inbox.old) (I.faults inbox.new) result }
 {
-    take_each(alloc, host, stage, inbox, known, folder, list.as_slice(), paths)
+    take_each(
+        alloc,
+        host,
+        stage,
+        inbox,
+        known,
+        folder,
+        list.as_slice(),
+        paths,
+    )
 }
