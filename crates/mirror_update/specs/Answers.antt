@@ -47,8 +47,7 @@ IsArchiveFault fault = Unit {0}
 
 -- Of an inbox that tells its files this comes of the archive. Of another one anything may that fits the state, and any refusal of an arrival.
 abbrev pub FilesArrive : Option Files → StateView → MirrorView → Result Fetched Refusal → Type 0
-FilesArrive (Some files) state mirror (Ok fetched) = Arrives files state.known mirror (Ok fetched) × FitsIn state mirror.name fetched
-FilesArrive (Some files) state mirror (Err refusal) = Arrives files state.known mirror (Err refusal) × IsArchiveRefusal refusal
+FilesArrive (Some files) state mirror arrived = Arrives files state.known mirror arrived
 FilesArrive None state mirror (Ok fetched) = FitsIn state mirror.name fetched
 FilesArrive None state mirror (Err refusal) = IsArchiveRefusal refusal
 
