@@ -16,6 +16,7 @@ use Rattle.index_text.specs.Index.{ArePackages}
 use Rattle.machine_state.specs.declared.limit.Limit.TheVariants.{Packages}
 use Rattle.machine_state.specs.declared.refusal.Refusal.{Refusal}
 use Rattle.machine_state.specs.declared.arrived.UpdateFault.{UpdateFault}
+use Rattle.machine_state.specs.declared.arrived.UpdateFault.TheVariants as faults
 use Rattle.machine_state.specs.Lists.{IsKnown, IsNamedList}
 use Rattle.machine_state.specs.Limits.{limit_number}
 use Rattle.machine_state.specs.State.{IsCatalogue}
@@ -28,7 +29,7 @@ use Rattle.mirror_update.specs.Answers.{chosen_in}
 use Rattle.package_intake.specs.Steps.{FaultGives, Gives, and_then, or_refused}
 use Rattle.package_intake.specs.Taking.{AreTakenIn, each_taken, taken_file}
 use Rattle.package_intake.specs.Catalogue.{within_catalogue}
-use Rattle.package_intake.proofs.ArrivalLemmas.{There, fault_behind, fault_then, joined_ascending, joined_good, joined_paths, paths_short, paths_there}
+use Rattle.package_intake.proofs.ArrivalLemmas.{There, joined_ascending, joined_good, joined_paths, paths_short, paths_there}
 use Rattle.package_intake.proofs.AddLemmas.{within}
 use Rattle.package_intake.proofs.FitLemmas.{catalogue_more, taken_all, taken_ascending, taken_equal, taken_known}
 use Rattle.package_intake.proofs.ListLemmas.{by_places, each_of}
@@ -36,6 +37,16 @@ use Rattle.mirror_update.specs.Arrival.{chosen_of, entries_arrive, files_arrive,
 use Rattle.mirror_update.specs.Fits.{IsKnowable}
 use Rattle.mirror_update.proofs.ListLemmas.{IsApart, alike_clash, joined_apart}
 use Rattle.mirror_update.proofs.FilterLemmas.{chosen_ascending, chosen_hold, chosen_named}
+
+-- ---- one step behind another
+fault_then : {X Y : Type 0} (fault : UpdateFault) (r : Result X Refusal) (f : X → Result Y Refusal) → FaultGives fault r → FaultGives fault (and_then r f)
+fault_then faults.HostFault r f h = tt
+fault_then faults.InboxFault r f h = tt
+fault_then faults.OutOfMemory r f h = tt
+fault_then (faults.Refused refusal) r f h = ap (λ x. and_then x f) h
+
+fault_behind : {X Y : Type 0} (fault : UpdateFault) (r : Result X Refusal) (f : X → Result Y Refusal) (x : X) → r ≡ Ok x → FaultGives fault (f x) → FaultGives fault (and_then r f)
+fault_behind {X = X} {Y = Y} fault r f x e h = subst (λ (y : Result X Refusal). FaultGives fault (and_then y f)) (sym e) h
 
 -- ---- the files, and what is known
 module _ (files : Files) (known : List Card) (folder : Path) (path : Card → Path) (ps : List Card) where

@@ -90,7 +90,7 @@ date_is release date said e utf8 =
 pub fits_state : (state : StateView) (name : List ℕ) (fetched : Fetched) → Valid state → FitsWith state.known fetched → FitsIn state name fetched
 fits_state state name fetched v f =
     let more = union state.known fetched.list in
-    let grows = λ p. known_more state.known fetched.list p v.known.sorted in
+    let grows : (p : Card) → IsKnown state.known p → IsKnown more p = λ p. known_more state.known fetched.list p v.known.sorted in
     let repos = record { each = v.repos.each; lists = all_so (RepoLists state.known) (RepoLists more) (λ repo. named_grows state.known more grows repo.list) state.repos v.repos.lists; sorted = v.repos.sorted; few = v.repos.few } in
     let w = valid_with state more state.repos v f.list.catalogue repos grows (λ n h. h) in
     record {
