@@ -1,5 +1,5 @@
 -- The indexes of an archive, read one after the other.
-use Rattle.std.proofs.Common.{◌≡◌, ◌≤◌, ℕ, List, [], ◌∷◌, ◌++◌, length, take, drop, Option, Some, None, Result, Ok, Err, IfErr, refl, sym, ap, ◌∙◌, subst, append_assoc, append-nil}
+use Rattle.std.proofs.Common.{◌≡◌, ◌≤◌, ◌<◌, ◌+◌, All, get_or, ℕ, List, [], ◌∷◌, ◌++◌, length, take, drop, Option, Some, None, Result, Ok, Err, IfErr, refl, sym, ap, ◌∙◌, subst, append_assoc, append-nil}
 use Rattle.std.specs.List.{AllByRecursion, Contains}
 use Rattle.std.specs.Result.{MatchResult}
 use Rattle.std.specs.Global.{Vec}
@@ -73,6 +73,10 @@ module _ (files : Files) (folder : Path) (listed : List Listed) where
   pub all_read : (names : List Path) (all : List IndexEntry) → AreRead (IsIndexRead files folder listed) names all → AreAllRead files folder listed names (Ok all)
   unfolding AreAllRead
   all_read names all h = h
+
+-- ---- the name at a place
+pub member : (P : Path → Type 0) (names : List Path) (i : ℕ) (name : Path) → All P names → i < length names → name ≡ get_or names i name → P name
+member P names i name all l at = subst P (sym at) (all i name l)
 
 -- ---- of what a mismatch is told
 pub of_one : (folder : Path) (listed : List Listed) (name : Path) (file : Listed) (said : Said) (fault : UpdateFault) → listed_at listed name ≡ Some file → said ≡ stated_of file → FaultOfFile (below_folder folder name) said fault → FaultOfOne folder listed name fault

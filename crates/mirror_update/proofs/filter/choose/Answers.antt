@@ -1,26 +1,26 @@
-use Rattle.std.proofs.Common.{rules, ◌≡◌, ◌≤◌, IfOk, IfErr, OnOk, Option, map, None, Some, ℕ, ◌+◌, ◌-◌, ◌*◌, ◌<◌, length, ◌/◌, ◌%◌, Bool, true, false, nat_eq, nat_lt, List, [], ◌∷◌, ◌++◌, slice_index_or, slice_set, bit_and, bit_or, Fits, w8, w32, w64, Bor, MutBor}
+use Rattle.std.proofs.Common.{◌≡◌, Bool, Some, None, List, map, slice_get, sym, ap, ◌∙◌, subst, IfOk}
 use Rattle.std.specs.List.{filter}
-use Rattle.std.specs.Option.{option_map}
+use Rattle.std.specs.Option.{option_copied}
 use Rattle.std.specs.Rc.{rc_value}
-use Rattle.query_tree.specs.Tree.{Tree, plain, plains}
+use Rattle.std.proofs.lemmas.Result.{IfOk-weaker}
 use Rattle.query_eval.specs.Truth.{matches}
-use Rattle.depend_pull.specs.Pull.{with_what_it_needs}
-use Rattle.step_model.specs.Answers.{ToldBy}
-use Rattle.step_model.specs.Refuses.{IsPick}
-use Rattle.mirror_update.specs.Answers.{IfRefused, KeepsText, change_tells}
-use Rattle.mirror_update.specs.Filter.{chosen_by, conditions_of}
-use Rattle.mirror_update.specs.Filter.{following as follow}
-use Rattle.mirror_update.specs.Filter.{queries_of}
+use Rattle.mirror_update.specs.Filter.{chosen_by}
+use Rattle.mirror_update.proofs.FilterLemmas.{matching_chosen, needs_chosen, none_chosen}
 use Rattle.mirror_update.proofs.filter.choose.Goals as goal
 
--- src/filter.rt:159:9
 pub returns-in_default : goal.returns-in_default
-returns-in_default c = ?
+returns-in_default c tree e =
+    let none : slice_get c.args.queries.now 0 ≡ None = sym c.in_default.ensures.value in
+    IfOk-weaker c.held.result _ _ (λ found h. h ∙ c.as_slice.ensures ∙ none_chosen c.args.queries.now tree c.args.deps c.args.archs.now c.args.joined e none) c.held.ensures
 
--- src/filter.rt:162:9
 pub returns-then-deps : goal.returns-then-deps
-returns-then-deps c = ?
+returns-then-deps c tree e =
+    IfOk-weaker c.needed.result _ _
+    (λ found h. h ∙ needs_chosen c.args.queries.now c.in-Some.query.now tree c.args.archs.now c.args.joined e (sym c.in-Some.ensures.value) ∙ ap (λ (b : Bool). chosen_by tree b c.args.archs.now c.args.joined) (sym c.if-deps.true))
+    c.needed.ensures
 
--- src/filter.rt:149:1
 pub returns : goal.returns
-returns c = ?
+returns c tree e =
+    IfOk-weaker c.matching.result _ _
+    (λ found h. h ∙ ap (filter (matches c.in-Some.query.now)) c.as_slice-2.ensures ∙ matching_chosen c.args.queries.now c.in-Some.query.now tree c.args.archs.now c.args.joined e (sym c.in-Some.ensures.value) ∙ ap (λ (b : Bool). chosen_by tree b c.args.archs.now c.args.joined) (sym c.if-deps.false))
+    c.matching.ensures

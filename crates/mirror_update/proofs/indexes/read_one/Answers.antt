@@ -1,18 +1,18 @@
-use Rattle.std.proofs.Common.{rules, ◌≡◌, ◌≤◌, ◌++◌, IfOk, IfErr, IfSome, All, length, ℕ, ◌+◌, ◌-◌, ◌*◌, ◌<◌, ◌/◌, ◌%◌, Bool, true, false, nat_eq, nat_lt, List, [], ◌∷◌, slice_index_or, slice_set, bit_and, bit_or, Fits, w8, w32, w64, Bor, MutBor}
-use Rattle.std.specs.List.{AllByRecursion}
-use Rattle.std.specs.Option.{ForSome, option_copied}
-use Rattle.ap_text.specs.Paths.{below_folder}
-use Rattle.ap_host.specs.Calls.{CauseOf}
-use Rattle.index_text.specs.Index.{ArePackages}
-use Rattle.machine_state.specs.declared.arrived.UpdateFault.TheVariants.{HostFault, InboxFault, OutOfMemory}
-use Rattle.package_intake.specs.Index.{AreShort}
-use Rattle.package_intake.specs.Faults.{FaultOfFile, IsInputFault}
-use Rattle.mirror_update.specs.Fetch.{MeetsItems}
-use Rattle.mirror_update.specs.Wanted.{listed_at as file_at}
-use Rattle.mirror_update.specs.Wanted.{stated_of}
-use Rattle.mirror_update.specs.Indexes.{AreAllRead, FaultOfListed, FaultOfOne, IsIndexRead}
+use Rattle.std.proofs.Common.{◌≡◌, Ok, Some, sym, ap, ◌∙◌, subst}
+use Rattle.std.specs.Result.{MatchResult}
+use Rattle.std.specs.Option.{option_copied}
+use Rattle.ap_host.specs.Disk.{Path}
+use Rattle.digest_set.specs.declared.facts.Said.{Said}
+use Rattle.index_text.specs.Index.{Lists}
+use Rattle.package_intake.specs.Index.{IsMalformed, stated_bytes}
+use Rattle.mirror_update.specs.Wanted.{listed_at}
+use Rattle.mirror_update.proofs.IndexLemmas.{one_said}
 use Rattle.mirror_update.proofs.indexes.read_one.Goals as goal
 
--- src/indexes.rt:46:1
 pub returns-clause-told : goal.returns-clause-told
-returns-clause-told g c = ?
+returns-clause-told g c short f told =
+    let at = c.in_ok-path.ensures.path in
+    let found : listed_at c.args.files.now c.args.name.now ≡ Some c.in-Some.file.now = sym c.listed_at.ensures ∙ ap option_copied c.in-Some.is in
+    let read = subst (λ (p : Path). stated_bytes p c.stated.result (f p) ≡ Ok c.in_ok-bytes.bytes) at (c.in_ok-bytes.ensures.told f told) in
+    one_said f c.args.folder.now c.args.files.now c.args.name.now c.in-Some.file.now c.stated.result c.as_slice.result.now c.read_entries.result found c.stated.ensures (read ∙ ap Ok (sym c.as_slice.ensures))
+    (subst (λ (p : Path). MatchResult c.read_entries.result (λ v. Lists c.as_slice.result.now v.items) (IsMalformed p c.as_slice.result.now)) at c.read_entries.ensures.index)
