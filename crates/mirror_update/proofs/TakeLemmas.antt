@@ -1,5 +1,5 @@
 -- The packages that the indexes say are taken in.
-use Rattle.std.proofs.Common.{◌≡◌, ◌≤◌, ◌⊎◌, ℕ, List, [], ◌∷◌, length, IsSome, Result, Ok, Err, refl, sym, ap, ◌∙◌, subst, arith, All}
+use Rattle.std.proofs.Common.{◌≡◌, ◌≤◌, ◌⊎◌, ℕ, List, [], ◌∷◌, length, IsSome, IfOk, Result, Ok, Err, refl, sym, ap, ◌∙◌, subst, arith, All}
 use Rattle.std.specs.List.{AllByRecursion}
 use Rattle.ap_text.specs.Paths.{below_folder}
 use Rattle.ap_host.specs.Disk.{Path, Files}
@@ -129,3 +129,8 @@ module _ (mirror : MirrorView) (release : ReleaseView) (entries : List IndexEntr
       answered : (r : Result (List Card) ListFault) → or_refused Packages r ≡ Ok (joined (cards_of entries)) → r ≡ Ok (joined (cards_of entries))
       answered (Ok xs) h = let same : xs ≡ joined (cards_of entries) = cc in ap Ok same
       answered (Err e) h = cc
+
+-- what two facts of a value make
+pub both_ok : {X E : Type 0} (r : Result X E) (P Q R : X → Type 0) → ((x : X) → P x → Q x → R x) → IfOk r P → IfOk r Q → IfOk r R
+both_ok (Ok x) P Q R f p q = f x p q
+both_ok (Err e) P Q R f p q = tt
