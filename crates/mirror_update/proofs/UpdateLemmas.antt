@@ -24,7 +24,7 @@ use Rattle.machine_state.specs.Limits.{limit_number}
 use Rattle.machine_state.specs.Lists.{IsKnown}
 use Rattle.machine_state.specs.Mirrors.{IsMirror, MirrorLists, RepoLists}
 use Rattle.machine_state.specs.Named.{named}
-use Rattle.machine_state.specs.State.{Valid, mirror_name, mirror_of}
+use Rattle.machine_state.specs.State.{AreRepos, Valid, mirror_name, mirror_of}
 use Rattle.machine_state.specs.Texts.{IsDate}
 use Rattle.machine_state.specs.Values.{MirrorView, StateView}
 use Rattle.machine_state.proofs.KindLemmas.{kind_changed}
@@ -90,8 +90,8 @@ date_is release date said e utf8 =
 pub fits_state : (state : StateView) (name : List ℕ) (fetched : Fetched) → Valid state → FitsWith state.known fetched → FitsIn state name fetched
 fits_state state name fetched v f =
     let more = union state.known fetched.list in
-    let grows = λ p. known_more state.known fetched.list p v.known.sorted in
-    let repos = record { each = v.repos.each; lists = all_so (RepoLists state.known) (RepoLists more) (λ repo. named_grows state.known more grows repo.list) state.repos v.repos.lists; sorted = v.repos.sorted; few = v.repos.few } in
+    let grows : (p : Card) → IsKnown state.known p → IsKnown more p = λ p. known_more state.known fetched.list p v.known.sorted in
+    let repos : AreRepos more state.repos = record { each = v.repos.each; lists = all_so (RepoLists state.known) (RepoLists more) (λ repo. named_grows state.known more grows repo.list) state.repos v.repos.lists; sorted = v.repos.sorted; few = v.repos.few } in
     let w = valid_with state more state.repos v f.list.catalogue repos grows (λ n h. h) in
     record {
       whole = f.list.whole;
@@ -107,6 +107,12 @@ fits_state state name fetched v f =
   where
     good : (m : MirrorView) → IsMirror m → IsMirror (with_fetched fetched m)
     good m h = record { name = h.name; archive = h.archive; distribution = h.distribution; components = h.components; architectures = h.architectures; filter = h.filter; updated = f.date }
+
+pub fetched_fits : (state : StateView) (name : List ℕ) (result : Result Arrived UpdateFault) → Valid state → IfFetched result (FitsWith state.known) → IfFetched result (FitsIn state name)
+fetched_fits state name (Ok (arrivals.List list date)) v h = fits_state state name (record { date = date; list = list }) v h
+fetched_fits state name (Ok arrivals.Nothing) v h = h
+fetched_fits state name (Ok (arrivals.Refused refusal)) v h = h
+fetched_fits state name (Err fault) v h = tt
 
 -- a mirror of a valid state has short paths
 pub mirror_short : (state : StateView) (mirror : MirrorView) → Valid state → mirror_of mirror.name state.mirrors ≡ Some mirror → IsShort mirror
