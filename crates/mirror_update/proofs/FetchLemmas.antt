@@ -1,17 +1,17 @@
 -- A file of the inbox that is read.
-use Rattle.std.proofs.Common.{◌≡◌, ◌≤◌, ℕ, List, length, Option, Some, Result, Ok, Err, IfErr, IfOk, refl, sym, subst, arith, length-append}
+use Rattle.std.proofs.Common.{◌≡◌, ℕ, List, Result, Ok, Err, IfErr, IfOk, refl, sym, subst}
 use Rattle.std.specs.Result.{MatchResult}
 use Rattle.std.specs.Global.{Vec}
 use Rattle.ap_host.specs.Disk.{Path, Files}
 use Rattle.release_file.specs.Release.{ReleaseView, IsRelease}
 use Rattle.machine_state.specs.declared.limit.Limit.TheVariants.{ReleaseBytes}
 use Rattle.machine_state.specs.declared.refusal.Refusal.{Refusal}
-use Rattle.machine_state.specs.declared.refusal.Refusal.TheVariants.{InputAbsent, InputMalformed, InputMismatch, Limit}
+use Rattle.machine_state.specs.declared.refusal.Refusal.TheVariants.{InputAbsent, InputMismatch, Limit}
 use Rattle.machine_state.specs.declared.arrived.UpdateFault.{UpdateFault}
 use Rattle.machine_state.specs.declared.arrived.UpdateFault.TheVariants as faults
 use Rattle.machine_state.specs.Values.{MirrorView}
 use Rattle.package_intake.specs.Index.{IsUnread, IsUnreadFault, bytes_within}
-use Rattle.package_intake.specs.Steps.{FaultGives, Gives}
+use Rattle.package_intake.specs.Steps.{FaultGives}
 use Rattle.package_intake.specs.Faults.{Tells}
 use Rattle.mirror_update.specs.Fetch.{FaultMeets, IsAbsentFault, IsFetched, IsMalformedBy, IsReleaseText, Meets, MeetsItems, ReadBy, release_path}
 use Rattle.mirror_update.specs.Answers.{IsReleaseFault, IsReleaseRefusal, IsSomeRelease}

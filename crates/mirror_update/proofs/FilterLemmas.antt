@@ -1,19 +1,17 @@
 -- What the filter chooses is some of what it chooses from.
-use Rattle.std.proofs.Common.{◌≡◌, ◌≤◌, Bool, true, false, cond, slice_get, List, [], ◌∷◌, ℕ, Option, Some, None, refl, sym, ap, subst, arith, ◌∙◌}
+use Rattle.std.proofs.Common.{◌≡◌, Bool, true, false, cond, slice_get, List, [], ◌∷◌, ℕ, Option, Some, None, refl, sym, ap, subst, ◌∙◌}
 use Rattle.std.specs.List.{AllByRecursion, filter}
 use Rattle.package_core.specs.Card.{Card}
 use Rattle.package_core.specs.Order.{package_cmp}
 use Rattle.package_core.proofs.OrderLaws.{package_total}
 use Rattle.query_tree.specs.Tree.{Tree}
 use Rattle.query_eval.specs.Truth.{matches}
-use Rattle.package_list.specs.Sorted.{IsAscending, equal_of}
+use Rattle.package_list.specs.Sorted.{IsAscending}
 use Rattle.package_list.specs.Lists.{has_member}
 use Rattle.package_list.proofs.Unions.{filter_ascending}
 use Rattle.depend_pull.specs.Pull.{taken_in_turn, with_what_it_needs}
 use Rattle.depend_pull.specs.Pull as pull
 use Rattle.machine_state.specs.Lists.{IsKnown, IsNamedList}
-use Rattle.machine_state.specs.Limits.{limit_number}
-use Rattle.machine_state.specs.declared.limit.Limit.TheVariants.{Packages}
 use Rattle.machine_state.proofs.ListLemmas.{named_kept}
 use Rattle.package_intake.proofs.ListLemmas.{by_places, each_itself}
 use Rattle.mirror_update.specs.Filter.{chosen_by, following, queries_of}

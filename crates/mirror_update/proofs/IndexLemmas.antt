@@ -1,10 +1,10 @@
 -- The indexes of an archive, read one after the other.
-use Rattle.std.proofs.Common.{◌≡◌, ◌≤◌, ◌<◌, ◌+◌, All, get_or, ℕ, List, [], ◌∷◌, ◌++◌, length, take, drop, Option, Some, None, Result, Ok, Err, IfErr, refl, sym, ap, ◌∙◌, subst, append_assoc, append-nil}
-use Rattle.std.specs.List.{AllByRecursion, Contains}
+use Rattle.std.proofs.Common.{◌≡◌, ◌<◌, All, get_or, ℕ, List, [], ◌∷◌, ◌++◌, length, Option, Some, None, Result, Ok, Err, refl, sym, ap, ◌∙◌, subst, append_assoc, append-nil}
+use Rattle.std.specs.List.{Contains}
 use Rattle.std.specs.Result.{MatchResult}
 use Rattle.std.specs.Global.{Vec}
 use Rattle.ap_text.specs.Paths.{below_folder}
-use Rattle.ap_host.specs.Disk.{Path, Content, Files}
+use Rattle.ap_host.specs.Disk.{Path, Files}
 use Rattle.index_text.specs.Index.{Lists}
 use Rattle.digest_set.specs.declared.facts.Said.{Said}
 use Rattle.release_file.specs.declared.listing.Listed.{Listed}
@@ -15,9 +15,9 @@ use Rattle.machine_state.specs.declared.arrived.UpdateFault.TheVariants as fault
 use Rattle.package_intake.specs.Index.{IndexEntry, IsIndex, IsMalformed, stated_bytes}
 use Rattle.package_intake.specs.Steps.{FaultGives}
 use Rattle.package_intake.specs.Faults.{FaultOfFile, IsInputFault, IsOfFile, IsOtherFault, IsOtherRefusal, IsOwnFault, Tells}
-use Rattle.mirror_update.specs.Fetch.{FaultMeets, IsAbsentFault, IsMalformedBy, Meets, MeetsItems, ReadBy}
+use Rattle.mirror_update.specs.Fetch.{FaultMeets, IsAbsentFault, IsMalformedBy, Meets, MeetsItems}
 use Rattle.mirror_update.specs.Wanted.{listed_at, stated_of}
-use Rattle.mirror_update.specs.Indexes.{AreAllRead, AreRead, FaultOfListed, FaultOfOne, IsFirstRefused, IsIndexRead, IsOfListed, IsOfOne, IsReadAll, listed_bytes}
+use Rattle.mirror_update.specs.Indexes.{AreAllRead, AreRead, FaultOfListed, FaultOfOne, IsIndexRead, IsOfListed, IsOfOne, IsReadAll, listed_bytes}
 use Rattle.mirror_update.proofs.FetchLemmas.{read_fault, read_said}
 
 -- ---- one index

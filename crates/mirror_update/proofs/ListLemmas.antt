@@ -1,5 +1,5 @@
 -- Lists of packages that don't clash.
-use Rattle.std.proofs.Common.{◌≡◌, ◌≤◌, ℕ, ◌+◌, Bool, true, false, not, cond, ◌&&◌, ◌||◌, List, [], ◌∷◌, ◌++◌, length, Option, Some, None, Result, Ok, Err, refl, sym, ap, ◌∙◌, subst, arith, nat_lt, ltb-true, append_assoc, append-nil, find, Ordering, Less, Equal, Greater}
+use Rattle.std.proofs.Common.{◌≡◌, ◌≤◌, ◌+◌, Bool, true, false, not, cond, ◌&&◌, ◌||◌, List, [], ◌∷◌, ◌++◌, length, Option, Some, None, Result, Ok, Err, refl, sym, ap, ◌∙◌, subst, arith, nat_lt, ltb-true, append_assoc, append-nil, find, Ordering, Less, Equal, Greater}
 use Rattle.std.specs.Ordering.{is_eq, ordering_then}
 use Rattle.std.specs.Option.{option_or}
 use Rattle.std.specs.List.{list_any}
@@ -12,8 +12,8 @@ use Rattle.package_list.specs.declared.list.TheConstants.{MOST_MEMBERS}
 use Rattle.package_list.specs.declared.fault.ListFault.{ListFault}
 use Rattle.package_list.specs.declared.fault.ListFault.TheVariants.{Conflict, Full}
 use Rattle.package_list.specs.Sorted.{placed, put}
-use Rattle.package_list.specs.Lists.{clash, clashes, has_clash, has_member, joined, union}
-use Rattle.package_list.specs.Answers.{err_or, first_refusal, insert_answer, join_answer, refusal}
+use Rattle.package_list.specs.Lists.{clash, clashes, has_clash, has_member, joined}
+use Rattle.package_list.specs.Answers.{err_or, first_refusal, join_answer, refusal}
 use Rattle.package_list.proofs.Beside.{triple_begins}
 use Rattle.package_list.proofs.Gathers.{any_union, clash_alike, refused_in_turn, union_push}
 use Rattle.package_list.proofs.SortedLemmas.{put_has, union_ascending}

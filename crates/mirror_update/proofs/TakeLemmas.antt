@@ -1,5 +1,5 @@
 -- The packages that the indexes say are taken in.
-use Rattle.std.proofs.Common.{◌≡◌, ◌≤◌, ◌⊎◌, ℕ, List, [], ◌∷◌, length, IsSome, IfOk, Result, Ok, Err, refl, sym, ap, ◌∙◌, subst, arith, All}
+use Rattle.std.proofs.Common.{◌≡◌, ◌≤◌, List, [], ◌∷◌, length, IsSome, IfOk, Result, Ok, Err, refl, sym, ap, ◌∙◌, subst, arith, All}
 use Rattle.std.specs.List.{AllByRecursion}
 use Rattle.ap_text.specs.Paths.{below_folder}
 use Rattle.ap_host.specs.Disk.{Path, Files}
@@ -7,7 +7,6 @@ use Rattle.std.specs.BTreeMap.{BTreeMap, get}
 use Rattle.package_core.specs.Card.{Card, IsPackage}
 use Rattle.package_core.specs.Order.{package_cmp}
 use Rattle.package_core.specs.Whole.{IsSaid, IsWhole}
-use Rattle.package_core.proofs.OrderLaws.{package_total}
 use Rattle.package_list.specs.Answers.{join_answer}
 use Rattle.package_list.specs.Lists.{joined, union}
 use Rattle.package_list.specs.Sorted.{IsAscending}
@@ -18,10 +17,9 @@ use Rattle.machine_state.specs.declared.refusal.Refusal.{Refusal}
 use Rattle.machine_state.specs.declared.arrived.UpdateFault.{UpdateFault}
 use Rattle.machine_state.specs.declared.arrived.UpdateFault.TheVariants as faults
 use Rattle.machine_state.specs.Lists.{IsKnown, IsNamedList}
-use Rattle.machine_state.specs.Limits.{limit_number}
 use Rattle.machine_state.specs.State.{IsCatalogue}
 use Rattle.machine_state.specs.Values.{MirrorView}
-use Rattle.package_intake.specs.Index.{AreShort, IndexEntry, cards_of, entry_for, path_of}
+use Rattle.package_intake.specs.Index.{AreShort, IndexEntry, cards_of, entry_for}
 use Rattle.package_intake.specs.Inside.{path_at}
 use Rattle.package_list.specs.declared.fault.ListFault.{ListFault}
 use Rattle.mirror_update.specs.Wanted.{wanted_architectures}
@@ -35,7 +33,7 @@ use Rattle.package_intake.proofs.FitLemmas.{catalogue_more, taken_all, taken_asc
 use Rattle.package_intake.proofs.ListLemmas.{by_places, each_of}
 use Rattle.mirror_update.specs.Arrival.{chosen_of, entries_arrive, files_arrive, knowable, list_arrives}
 use Rattle.mirror_update.specs.Fits.{IsKnowable}
-use Rattle.mirror_update.proofs.ListLemmas.{IsApart, alike_clash, joined_apart}
+use Rattle.mirror_update.proofs.ListLemmas.{alike_clash, joined_apart}
 use Rattle.mirror_update.proofs.FilterLemmas.{chosen_ascending, chosen_hold, chosen_named}
 
 -- ---- one step behind another

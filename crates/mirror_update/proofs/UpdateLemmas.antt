@@ -1,9 +1,8 @@
 -- An archive arrives: what is told of it, and that it fits.
-use Rattle.std.proofs.Common.{◌≡◌, ◌≤◌, ◌⊎◌, inl, inr, ℕ, Bool, true, false, List, [], length, Option, Some, None, IfSome, Result, Ok, Err, IfErr, OnOk, refl, sym, ap, ◌∙◌, subst, arith, leb-true}
+use Rattle.std.proofs.Common.{◌≡◌, inl, inr, ℕ, true, List, length, Option, Some, None, Result, Ok, Err, IfErr, refl, sym, ap, ◌∙◌, subst, leb-true}
 use Rattle.std.specs.Prelude.{nat_le}
 use Rattle.std.specs.Option.{ForSome}
 use Rattle.std.specs.Str.{IsUtf8, bytes_eq}
-use Rattle.std.specs.List.{list_all}
 use Rattle.std.proofs.lemmas.Bool.{and_parts}
 use Rattle.ap_text.specs.Paths.{is_safe_path}
 use Rattle.ap_host.specs.Disk.{Files}
@@ -11,9 +10,7 @@ use Rattle.package_core.specs.Card.{Card}
 use Rattle.package_list.specs.Lists.{union}
 use Rattle.release_file.specs.Release.{ReleaseView, is_date}
 use Rattle.machine_state.specs.declared.fetched.Fetched.{Fetched}
-use Rattle.machine_state.specs.declared.limit.Limit.{Limit as LimitKind}
 use Rattle.machine_state.specs.declared.limit.Limit.TheVariants.{Mirrors, ReleaseBytes}
-use Rattle.machine_state.specs.declared.limit.Limit.TheVariants as limits
 use Rattle.machine_state.specs.declared.refusal.Refusal.{Refusal}
 use Rattle.machine_state.specs.declared.refusal.Refusal.TheVariants.{InputAbsent, InputMalformed, InputMismatch, Limit, PatternTooLarge}
 use Rattle.machine_state.specs.declared.arrived.Arrived.{Arrived}
@@ -23,7 +20,6 @@ use Rattle.machine_state.specs.declared.arrived.UpdateFault.TheVariants as fault
 use Rattle.machine_state.specs.Limits.{limit_number}
 use Rattle.machine_state.specs.Lists.{IsKnown}
 use Rattle.machine_state.specs.Mirrors.{IsMirror, MirrorLists, RepoLists}
-use Rattle.machine_state.specs.Named.{named}
 use Rattle.machine_state.specs.State.{AreRepos, Valid, mirror_name, mirror_of}
 use Rattle.machine_state.specs.Texts.{IsDate}
 use Rattle.machine_state.specs.Values.{MirrorView, StateView}

@@ -1,4 +1,4 @@
-use Rattle.std.proofs.Common.{◌≡◌, ◌≤◌, ℕ, List, [], map, length, unwrap_or, refl, sym, ap, ◌∙◌, subst, subst₂, IfOk}
+use Rattle.std.proofs.Common.{◌≡◌, ◌≤◌, ℕ, List, [], map, length, unwrap_or, refl, sym, ap, ◌∙◌, subst, subst₂}
 use Rattle.std.specs.Rc.{rc_value}
 use Rattle.std.proofs.lemmas.Result.{err_from_is_err_and}
 use Rattle.ap_host.specs.Disk.{Path}
@@ -14,7 +14,6 @@ use Rattle.package_intake.proofs.LogLemmas.{all_nothing}
 use Rattle.mirror_update.specs.Answers.{chosen_in}
 use Rattle.mirror_update.specs.Arrival.{entries_arrive, files_arrive}
 use Rattle.mirror_update.specs.Filter.{chosen_by}
-use Rattle.mirror_update.specs.Fits.{IsKnowable}
 use Rattle.mirror_update.proofs.TakeLemmas.{both_ok, chosen_good, chosen_knowable, chosen_paths, chosen_short, chosen_up, join_fault, list_gives}
 use Rattle.mirror_update.proofs.arrive.take_chosen.Goals as goal
 

@@ -2,7 +2,6 @@ use Rattle.std.proofs.Common.{◌≡◌, Ok, Some, sym, ap, ◌∙◌, subst}
 use Rattle.std.specs.Result.{MatchResult}
 use Rattle.std.specs.Option.{option_copied}
 use Rattle.ap_host.specs.Disk.{Path}
-use Rattle.digest_set.specs.declared.facts.Said.{Said}
 use Rattle.index_text.specs.Index.{Lists}
 use Rattle.package_intake.specs.Index.{IsMalformed, stated_bytes}
 use Rattle.mirror_update.specs.Wanted.{listed_at}

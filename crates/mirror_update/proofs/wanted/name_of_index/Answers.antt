@@ -1,4 +1,4 @@
-use Rattle.std.proofs.Common.{◌≡◌, ℕ, List, sym, subst, IsTrue}
+use Rattle.std.proofs.Common.{ℕ, List, sym, subst, IsTrue}
 use Rattle.ap_text.specs.Paths.{is_safe_path}
 use Rattle.ap_text.proofs.JoinLemmas.{safe_name}
 use Rattle.mirror_update.proofs.wanted.name_of_index.Goals as goal
