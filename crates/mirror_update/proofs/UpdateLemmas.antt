@@ -145,11 +145,11 @@ release_archive mirror faults.OutOfMemory h = tt
 
 -- ---- on any inbox
 pub files_arrive : (map : Option Files) (state : StateView) (mirror : MirrorView) (result : Result Arrived UpdateFault) → ((f : Files) → map ≡ Some f → Brings (Arrives f state.known mirror) result) → IfFetched result (FitsIn state mirror.name) → IfErr result IsArchiveFault → Brings (FilesArrive map state mirror) result
-files_arrive (Some f) state mirror (Ok (arrivals.List list date)) h fits fault = (h f refl, fits)
+files_arrive (Some f) state mirror (Ok (arrivals.List list date)) h fits fault = h f refl
 files_arrive None state mirror (Ok (arrivals.List list date)) h fits fault = fits
 files_arrive map state mirror (Ok arrivals.Nothing) h fits fault = fits
 files_arrive map state mirror (Ok (arrivals.Refused refusal)) h fits fault = fits
-files_arrive (Some f) state mirror (Err (faults.Refused refusal)) h fits fault = (h f refl, fault)
+files_arrive (Some f) state mirror (Err (faults.Refused refusal)) h fits fault = h f refl
 files_arrive None state mirror (Err (faults.Refused refusal)) h fits fault = fault
 files_arrive map state mirror (Err faults.HostFault) h fits fault = tt
 files_arrive map state mirror (Err faults.InboxFault) h fits fault = tt
