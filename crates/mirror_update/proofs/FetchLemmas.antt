@@ -1,18 +1,19 @@
 -- A file of the inbox that is read.
-use Rattle.std.proofs.Common.{◌≡◌, ◌≤◌, ℕ, List, length, Option, Some, Result, Ok, Err, IfErr, IfOk, refl, sym, subst, arith, length-append}
+use Rattle.std.proofs.Common.{◌≡◌, ℕ, List, Result, Ok, Err, IfErr, IfOk, refl, sym, subst}
 use Rattle.std.specs.Result.{MatchResult}
+use Rattle.std.specs.Global.{Vec}
 use Rattle.ap_host.specs.Disk.{Path, Files}
 use Rattle.release_file.specs.Release.{ReleaseView, IsRelease}
 use Rattle.machine_state.specs.declared.limit.Limit.TheVariants.{ReleaseBytes}
 use Rattle.machine_state.specs.declared.refusal.Refusal.{Refusal}
-use Rattle.machine_state.specs.declared.refusal.Refusal.TheVariants.{InputAbsent, InputMalformed, InputMismatch, Limit}
+use Rattle.machine_state.specs.declared.refusal.Refusal.TheVariants.{InputAbsent, InputMismatch, Limit}
 use Rattle.machine_state.specs.declared.arrived.UpdateFault.{UpdateFault}
 use Rattle.machine_state.specs.declared.arrived.UpdateFault.TheVariants as faults
 use Rattle.machine_state.specs.Values.{MirrorView}
 use Rattle.package_intake.specs.Index.{IsUnread, IsUnreadFault, bytes_within}
-use Rattle.package_intake.specs.Steps.{FaultGives, Gives}
+use Rattle.package_intake.specs.Steps.{FaultGives}
 use Rattle.package_intake.specs.Faults.{Tells}
-use Rattle.mirror_update.specs.Fetch.{FaultMeets, IsAbsentFault, IsFetched, IsMalformedBy, IsReleaseText, Meets, ReadBy, release_path}
+use Rattle.mirror_update.specs.Fetch.{FaultMeets, IsAbsentFault, IsFetched, IsMalformedBy, IsReleaseText, Meets, MeetsItems, ReadBy, release_path}
 use Rattle.mirror_update.specs.Answers.{IsReleaseFault, IsReleaseRefusal, IsSomeRelease}
 
 module _ {X : Type 0} (Says : List ℕ → Result X ℕ → Type 0) (path : Path) (content : Result (List ℕ) Refusal) where
@@ -35,8 +36,11 @@ module _ {X : Type 0} (Says : List ℕ → Result X ℕ → Type 0) (path : Path
   read_said bytes (Err fault) e h = malformed_meets bytes fault e h
 
 -- ---- what an error that is handed on meets
-pub met_err : {X Y : Type 0} (P : Result X Refusal → Type 0) (r : Result X UpdateFault) (x y : UpdateFault) → r ≡ Err x → x ≡ y → FaultMeets P y → Meets P r
+pub met_err : {X : Type 0} (P : Result X Refusal → Type 0) (r : Result X UpdateFault) (x y : UpdateFault) → r ≡ Err x → x ≡ y → FaultMeets P y → Meets P r
 met_err P r x y e s h = subst (Meets P) (sym e) (subst (FaultMeets P) (sym s) h)
+
+pub met_items_err : {X : Type 0} (P : Result (List X) Refusal → Type 0) (r : Result (Vec X) UpdateFault) (x y : UpdateFault) → r ≡ Err x → x ≡ y → FaultMeets P y → MeetsItems P r
+met_items_err P r x y e s h = subst (MeetsItems P) (sym e) (subst (FaultMeets P) (sym s) h)
 
 -- want of memory meets anything
 pub memory_meets : {X : Type 0} (P : Result X Refusal → Type 0) (fault : UpdateFault) → fault ≡ faults.OutOfMemory → FaultMeets P fault

@@ -1,9 +1,10 @@
 -- The indexes of an archive, read one after the other.
-use Rattle.std.proofs.Common.{◌≡◌, ◌≤◌, ℕ, List, [], ◌∷◌, ◌++◌, length, take, drop, Option, Some, None, Result, Ok, Err, IfErr, refl, sym, ap, ◌∙◌, subst, append_assoc, append_nil}
-use Rattle.std.specs.List.{AllByRecursion, Contains}
+use Rattle.std.proofs.Common.{◌≡◌, ◌<◌, All, get_or, ℕ, List, [], ◌∷◌, ◌++◌, length, Option, Some, None, Result, Ok, Err, refl, sym, ap, ◌∙◌, subst, append_assoc, append-nil}
+use Rattle.std.specs.List.{Contains}
 use Rattle.std.specs.Result.{MatchResult}
+use Rattle.std.specs.Global.{Vec}
 use Rattle.ap_text.specs.Paths.{below_folder}
-use Rattle.ap_host.specs.Disk.{Path, Content, Files}
+use Rattle.ap_host.specs.Disk.{Path, Files}
 use Rattle.index_text.specs.Index.{Lists}
 use Rattle.digest_set.specs.declared.facts.Said.{Said}
 use Rattle.release_file.specs.declared.listing.Listed.{Listed}
@@ -14,9 +15,9 @@ use Rattle.machine_state.specs.declared.arrived.UpdateFault.TheVariants as fault
 use Rattle.package_intake.specs.Index.{IndexEntry, IsIndex, IsMalformed, stated_bytes}
 use Rattle.package_intake.specs.Steps.{FaultGives}
 use Rattle.package_intake.specs.Faults.{FaultOfFile, IsInputFault, IsOfFile, IsOtherFault, IsOtherRefusal, IsOwnFault, Tells}
-use Rattle.mirror_update.specs.Fetch.{FaultMeets, IsAbsentFault, IsMalformedBy, Meets, ReadBy}
+use Rattle.mirror_update.specs.Fetch.{FaultMeets, IsAbsentFault, IsMalformedBy, Meets, MeetsItems}
 use Rattle.mirror_update.specs.Wanted.{listed_at, stated_of}
-use Rattle.mirror_update.specs.Indexes.{AreAllRead, AreRead, FaultOfListed, FaultOfOne, IsFirstRefused, IsIndexRead, IsOfListed, IsOfOne, IsReadAll, listed_bytes}
+use Rattle.mirror_update.specs.Indexes.{AreAllRead, AreRead, FaultOfListed, FaultOfOne, IsIndexRead, IsOfListed, IsOfOne, IsReadAll, listed_bytes}
 use Rattle.mirror_update.proofs.FetchLemmas.{read_fault, read_said}
 
 -- ---- one index
@@ -43,18 +44,18 @@ module _ (files : Files) (folder : Path) (listed : List Listed) (name : Path) wh
   as_malformed bytes faults.HostFault h = h
   as_malformed bytes faults.InboxFault h = h
 
-  pub one_said : (file : Listed) (said : Said) (bytes : List ℕ) (result : Result (List IndexEntry) UpdateFault) → listed_at listed name ≡ Some file → said ≡ stated_of file → stated_bytes path said (files path) ≡ Ok bytes → MatchResult result (Lists bytes) (IsMalformed path bytes) → Meets (IsIndexRead files folder listed name) result
-  one_said file said bytes result e s g h =
-      read_said IsIndex path (there (listed_at listed name)) bytes result (ap there e ∙ ap (λ (x : Said). stated_bytes path x (files path)) (sym s) ∙ g) (as_says result h)
-    where
-      as_says : (r : Result (List IndexEntry) UpdateFault) → MatchResult r (Lists bytes) (IsMalformed path bytes) → MatchResult r (λ x. IsIndex bytes (Ok x)) (IsMalformedBy IsIndex path bytes)
-      as_says (Ok x) h = h
-      as_says (Err e) h = as_malformed bytes e h
+  said_so : (file : Listed) (said : Said) (bytes : List ℕ) (result : Result (List IndexEntry) UpdateFault) → listed_at listed name ≡ Some file → said ≡ stated_of file → stated_bytes path said (files path) ≡ Ok bytes → MatchResult result (λ x. IsIndex bytes (Ok x)) (IsMalformedBy IsIndex path bytes) → Meets (IsIndexRead files folder listed name) result
+  said_so file said bytes result e s g h =
+      read_said IsIndex path (there (listed_at listed name)) bytes result (ap there e ∙ ap (λ (x : Said). stated_bytes path x (files path)) (sym s) ∙ g) h
+
+  pub one_said : (file : Listed) (said : Said) (bytes : List ℕ) (result : Result (Vec IndexEntry) UpdateFault) → listed_at listed name ≡ Some file → said ≡ stated_of file → stated_bytes path said (files path) ≡ Ok bytes → MatchResult result (λ v. Lists bytes v.items) (IsMalformed path bytes) → MeetsItems (IsIndexRead files folder listed name) result
+  one_said file said bytes (Ok v) e s g h = said_so file said bytes (Ok v.items) e s g h
+  one_said file said bytes (Err fault) e s g h = said_so file said bytes (Err fault) e s g (as_malformed bytes fault h)
 
 -- ---- all of them
 module _ {X : Type 0} (IsRead : Path → Result (List X) Refusal → Type 0) where
   pub read_more : (names : List Path) (name : Path) (all here : List X) → AreRead IsRead names all → IsRead name (Ok here) → AreRead IsRead (names ++ name ∷ []) (all ++ here)
-  read_more [] name all here h r = (here, [], r, refl, ap (λ (xs : List X). xs ++ here) h ∙ sym (append_nil here))
+  read_more [] name all here h r = (here, [], r, refl, ap (λ (xs : List X). xs ++ here) h ∙ sym (append-nil here))
   read_more (n ∷ ns) name all here h r =
       (h.0, h.1 ++ here, h.2, read_more ns name h.1 here h.3 r, ap (λ (xs : List X). xs ++ here) h.4 ∙ append_assoc h.0 h.1 here)
 
@@ -72,6 +73,10 @@ module _ (files : Files) (folder : Path) (listed : List Listed) where
   pub all_read : (names : List Path) (all : List IndexEntry) → AreRead (IsIndexRead files folder listed) names all → AreAllRead files folder listed names (Ok all)
   unfolding AreAllRead
   all_read names all h = h
+
+-- ---- the name at a place
+pub member : (P : Path → Type 0) (names : List Path) (i : ℕ) (name : Path) → All P names → i < length names → name ≡ get_or names i name → P name
+member P names i name all l at = subst P (sym at) (all i name l)
 
 -- ---- of what a mismatch is told
 pub of_one : (folder : Path) (listed : List Listed) (name : Path) (file : Listed) (said : Said) (fault : UpdateFault) → listed_at listed name ≡ Some file → said ≡ stated_of file → FaultOfFile (below_folder folder name) said fault → FaultOfOne folder listed name fault
@@ -118,7 +123,7 @@ pub absent_input : (fault : UpdateFault) → IsAbsentFault fault → IsInputFaul
 absent_input (faults.Refused refusal) h = by_refusal refusal h
   where
     by_refusal : (r : Refusal) → IsAbsentFault (faults.Refused r) → IsInputFault (faults.Refused r)
-    by_refusal (InputAbsent path) h = tt
+    by_refusal (InputAbsent _) h = tt
     by_refusal r h = absurd h
 absent_input faults.OutOfMemory h = tt
 absent_input faults.HostFault h = absurd h

@@ -5,3 +5,4 @@ pub mod IndexLemmas
 pub mod FilterLemmas
 pub mod TakeLemmas
 pub mod UpdateLemmas
+pub mod LawLemmas

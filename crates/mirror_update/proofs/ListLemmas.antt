@@ -1,5 +1,5 @@
 -- Lists of packages that don't clash.
-use Rattle.std.proofs.Common.{◌≡◌, ◌≤◌, ℕ, ◌+◌, Bool, true, false, not, cond, ◌&&◌, ◌||◌, List, [], ◌∷◌, ◌++◌, length, Option, Some, None, Result, Ok, Err, refl, sym, ap, ◌∙◌, subst, arith, nat_lt, ltb-true, append_assoc, append_nil, find, Ordering, Less, Equal, Greater}
+use Rattle.std.proofs.Common.{◌≡◌, ◌≤◌, ◌+◌, Bool, true, false, not, cond, ◌&&◌, ◌||◌, List, [], ◌∷◌, ◌++◌, length, Option, Some, None, Result, Ok, Err, refl, sym, ap, ◌∙◌, subst, arith, nat_lt, ltb-true, append_assoc, append-nil, find, Ordering, Less, Equal, Greater}
 use Rattle.std.specs.Ordering.{is_eq, ordering_then}
 use Rattle.std.specs.Option.{option_or}
 use Rattle.std.specs.List.{list_any}
@@ -12,8 +12,8 @@ use Rattle.package_list.specs.declared.list.TheConstants.{MOST_MEMBERS}
 use Rattle.package_list.specs.declared.fault.ListFault.{ListFault}
 use Rattle.package_list.specs.declared.fault.ListFault.TheVariants.{Conflict, Full}
 use Rattle.package_list.specs.Sorted.{placed, put}
-use Rattle.package_list.specs.Lists.{clash, clashes, has_clash, has_member, joined, union}
-use Rattle.package_list.specs.Answers.{err_or, first_refusal, insert_answer, join_answer, refusal}
+use Rattle.package_list.specs.Lists.{clash, clashes, has_clash, has_member, joined}
+use Rattle.package_list.specs.Answers.{err_or, first_refusal, join_answer, refusal}
 use Rattle.package_list.proofs.Beside.{triple_begins}
 use Rattle.package_list.proofs.Gathers.{any_union, clash_alike, refused_in_turn, union_push}
 use Rattle.package_list.proofs.SortedLemmas.{put_has, union_ascending}
@@ -74,7 +74,7 @@ both_none None b h = (refl, h)
 both_none (Some x) b h = cc
 
 all_apart : (before ps : List Card) → IsApart (joined before) → first_refusal before ps ≡ None → IsApart (joined (before ++ ps))
-all_apart before [] a none = subst (λ (xs : List Card). IsApart (joined xs)) (sym (append_nil before)) a
+all_apart before [] a none = subst (λ (xs : List Card). IsApart (joined xs)) (sym (append-nil before)) a
 all_apart before (p ∷ ps) a none =
     let both = both_none (refusal before p) (first_refusal (before ++ p ∷ []) ps) none in
     subst (λ (xs : List Card). IsApart (joined xs)) (append_assoc before (p ∷ []) ps) (all_apart (before ++ p ∷ []) ps (next_apart before p a both.0) both.1)
@@ -95,8 +95,8 @@ equal_triple Greater s h = cc
 same_clash : (q p r : Card) → package_cmp p r ≡ Equal → clash q p ≡ clash q r
 same_clash q p r e =
     let t : triple_cmp p r ≡ Equal = equal_triple (triple_cmp p r) (body_cmp p r) (sym (triple_begins p r) ∙ e) in
-    let s : same_triple q p ≡ same_triple q r = same_triple-is q p ∙ ap is_eq (alike_right triple_total q p r t) ∙ sym (same_triple-is q r) in
-    (λ i. s i && not (is_eq (alike_right package_total q p r e i)))
+    let s : same_triple q p ≡ same_triple q r = same_triple-is q p ∙ ap is_eq (alike_right triple_total p r q t) ∙ sym (same_triple-is q r) in
+    (λ i. s i && not (is_eq (alike_right package_total p r q e i)))
 
 any_alike : (f g : Card → Bool) → ((p q : Card) → package_cmp p q ≡ Equal → f p ≡ g q) → (ps qs : List Card) → AreEqual package_total ps qs → list_any f ps ≡ list_any g qs
 any_alike f g same [] [] h = refl

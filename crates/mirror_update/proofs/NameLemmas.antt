@@ -1,5 +1,5 @@
 -- The folder of an architecture is a path.
-use Rattle.std.proofs.Common.{◌≡◌, ◌≤◌, ℕ, Bool, true, false, not, ◌&&◌, List, [], ◌∷◌, length, refl, sym, ap, ◌∙◌, arith, nat_lt, le-ltb, le-leb, leb-true}
+use Rattle.std.proofs.Common.{◌≡◌, ◌≤◌, ℕ, true, false, not, ◌&&◌, List, [], ◌∷◌, length, sym, ap, ◌∙◌, arith, le-ltb, le-leb, leb-true}
 use Rattle.std.specs.Prelude.{nat_le}
 use Rattle.std.specs.List.{list_all, onto_first}
 use Rattle.std.proofs.lemmas.Bool.{and_parts}
@@ -9,7 +9,9 @@ use Rattle.ap_text.proofs.JoinLemmas.{safe_name, segments_name}
 use Rattle.mirror_update.specs.Wanted.{arch_folder}
 
 pub name_short : (name : List ℕ) → is_name name ≡ true → length name ≤ 200
-name_short name h = leb-true (length name) 200 (and_parts (nat_le (length name) 200) (begins_alphanumeric name && list_all is_name_byte name) h).0
+name_short name h =
+    let begins = (and_parts (nat_le (length name) 200 && begins_alphanumeric name) (list_all is_name_byte name) h).0 in
+    leb-true (length name) 200 (and_parts (nat_le (length name) 200) (begins_alphanumeric name) begins).0
 
 -- behind a front without a slash
 one_segment : (arch : List ℕ) → is_name arch ≡ true → segments (arch_folder arch) ≡ arch_folder arch ∷ []
@@ -20,14 +22,13 @@ path_bytes arch h =
     let all = (and_parts (nat_le (length arch) 1000) (list_all is_segment (segments arch)) (safe_name arch h)).1 in
     let one : (is_segment arch && true) ≡ true = ap (list_all is_segment) (sym (segments_name arch h)) ∙ all in
     let good = (and_parts (is_segment arch) true one).0 in
-    let rest = (and_parts (not (is_long_segment arch)) (not (is_no_entry arch) && list_all is_path_byte arch) good).1 in
-    (and_parts (not (is_no_entry arch)) (list_all is_path_byte arch) rest).1
+    (and_parts (not (is_long_segment arch) && not (is_no_entry arch)) (list_all is_path_byte arch) good).1
 
 good_segment : (arch : List ℕ) → is_name arch ≡ true → is_segment (arch_folder arch) ≡ true
 good_segment arch h =
     let short = name_short arch h in
     let long : is_long_segment (arch_folder arch) ≡ false = le-ltb 255 (length (arch_folder arch)) (omega (arith, short)) in
-    (λ i. not (long i) && path_bytes arch h i)
+    (λ i. not (long i) && true && path_bytes arch h i)
 
 pub arch_safe : (arch : List ℕ) → is_name arch ≡ true → is_safe_path (arch_folder arch) ≡ true
 arch_safe arch h =

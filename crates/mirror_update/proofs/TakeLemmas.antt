@@ -1,5 +1,5 @@
 -- The packages that the indexes say are taken in.
-use Rattle.std.proofs.Common.{◌≡◌, ◌≤◌, ◌⊎◌, ℕ, List, [], ◌∷◌, length, IsSome, Result, Ok, Err, refl, sym, ap, ◌∙◌, subst, arith, All}
+use Rattle.std.proofs.Common.{◌≡◌, ◌≤◌, List, [], ◌∷◌, length, IsSome, IfOk, Result, Ok, Err, refl, sym, ap, ◌∙◌, subst, arith, All}
 use Rattle.std.specs.List.{AllByRecursion}
 use Rattle.ap_text.specs.Paths.{below_folder}
 use Rattle.ap_host.specs.Disk.{Path, Files}
@@ -7,7 +7,6 @@ use Rattle.std.specs.BTreeMap.{BTreeMap, get}
 use Rattle.package_core.specs.Card.{Card, IsPackage}
 use Rattle.package_core.specs.Order.{package_cmp}
 use Rattle.package_core.specs.Whole.{IsSaid, IsWhole}
-use Rattle.package_core.proofs.OrderLaws.{package_total}
 use Rattle.package_list.specs.Answers.{join_answer}
 use Rattle.package_list.specs.Lists.{joined, union}
 use Rattle.package_list.specs.Sorted.{IsAscending}
@@ -16,11 +15,11 @@ use Rattle.index_text.specs.Index.{ArePackages}
 use Rattle.machine_state.specs.declared.limit.Limit.TheVariants.{Packages}
 use Rattle.machine_state.specs.declared.refusal.Refusal.{Refusal}
 use Rattle.machine_state.specs.declared.arrived.UpdateFault.{UpdateFault}
+use Rattle.machine_state.specs.declared.arrived.UpdateFault.TheVariants as faults
 use Rattle.machine_state.specs.Lists.{IsKnown, IsNamedList}
-use Rattle.machine_state.specs.Limits.{limit_number}
 use Rattle.machine_state.specs.State.{IsCatalogue}
 use Rattle.machine_state.specs.Values.{MirrorView}
-use Rattle.package_intake.specs.Index.{AreShort, IndexEntry, cards_of, entry_for, path_of}
+use Rattle.package_intake.specs.Index.{AreShort, IndexEntry, cards_of, entry_for}
 use Rattle.package_intake.specs.Inside.{path_at}
 use Rattle.package_list.specs.declared.fault.ListFault.{ListFault}
 use Rattle.mirror_update.specs.Wanted.{wanted_architectures}
@@ -28,14 +27,24 @@ use Rattle.mirror_update.specs.Answers.{chosen_in}
 use Rattle.package_intake.specs.Steps.{FaultGives, Gives, and_then, or_refused}
 use Rattle.package_intake.specs.Taking.{AreTakenIn, each_taken, taken_file}
 use Rattle.package_intake.specs.Catalogue.{within_catalogue}
-use Rattle.package_intake.proofs.ArrivalLemmas.{There, fault_behind, fault_then, joined_ascending, joined_good, joined_paths, paths_short, paths_there}
+use Rattle.package_intake.proofs.ArrivalLemmas.{There, joined_ascending, joined_good, joined_paths, paths_short, paths_there}
 use Rattle.package_intake.proofs.AddLemmas.{within}
 use Rattle.package_intake.proofs.FitLemmas.{catalogue_more, taken_all, taken_ascending, taken_equal, taken_known}
 use Rattle.package_intake.proofs.ListLemmas.{by_places, each_of}
 use Rattle.mirror_update.specs.Arrival.{chosen_of, entries_arrive, files_arrive, knowable, list_arrives}
 use Rattle.mirror_update.specs.Fits.{IsKnowable}
-use Rattle.mirror_update.proofs.ListLemmas.{IsApart, alike_clash, joined_apart}
+use Rattle.mirror_update.proofs.ListLemmas.{alike_clash, joined_apart}
 use Rattle.mirror_update.proofs.FilterLemmas.{chosen_ascending, chosen_hold, chosen_named}
+
+-- ---- one step behind another
+fault_then : {X Y : Type 0} (fault : UpdateFault) (r : Result X Refusal) (f : X → Result Y Refusal) → FaultGives fault r → FaultGives fault (and_then r f)
+fault_then faults.HostFault r f h = tt
+fault_then faults.InboxFault r f h = tt
+fault_then faults.OutOfMemory r f h = tt
+fault_then (faults.Refused refusal) r f h = ap (λ x. and_then x f) h
+
+fault_behind : {X Y : Type 0} (fault : UpdateFault) (r : Result X Refusal) (f : X → Result Y Refusal) (x : X) → r ≡ Ok x → FaultGives fault (f x) → FaultGives fault (and_then r f)
+fault_behind {X = X} {Y = Y} fault r f x e h = subst (λ (y : Result X Refusal). FaultGives fault (and_then y f)) (sym e) h
 
 -- ---- the files, and what is known
 module _ (files : Files) (known : List Card) (folder : Path) (path : Card → Path) (ps : List Card) where
@@ -118,3 +127,8 @@ module _ (mirror : MirrorView) (release : ReleaseView) (entries : List IndexEntr
       answered : (r : Result (List Card) ListFault) → or_refused Packages r ≡ Ok (joined (cards_of entries)) → r ≡ Ok (joined (cards_of entries))
       answered (Ok xs) h = let same : xs ≡ joined (cards_of entries) = cc in ap Ok same
       answered (Err e) h = cc
+
+-- what two facts of a value make
+pub both_ok : {X E : Type 0} (r : Result X E) (P Q R : X → Type 0) → ((x : X) → P x → Q x → R x) → IfOk r P → IfOk r Q → IfOk r R
+both_ok (Ok x) P Q R f p q = f x p q
+both_ok (Err e) P Q R f p q = tt

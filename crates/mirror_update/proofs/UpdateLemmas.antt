@@ -1,9 +1,8 @@
 -- An archive arrives: what is told of it, and that it fits.
-use Rattle.std.proofs.Common.{◌≡◌, ◌≤◌, ◌⊎◌, inl, inr, ℕ, Bool, true, false, List, [], length, Option, Some, None, IfSome, Result, Ok, Err, IfErr, OnOk, refl, sym, ap, ◌∙◌, subst, arith, leb-true}
+use Rattle.std.proofs.Common.{◌≡◌, inl, inr, ℕ, true, List, length, Option, Some, None, Result, Ok, Err, IfErr, refl, sym, ap, ◌∙◌, subst, leb-true}
 use Rattle.std.specs.Prelude.{nat_le}
 use Rattle.std.specs.Option.{ForSome}
 use Rattle.std.specs.Str.{IsUtf8, bytes_eq}
-use Rattle.std.specs.List.{list_all}
 use Rattle.std.proofs.lemmas.Bool.{and_parts}
 use Rattle.ap_text.specs.Paths.{is_safe_path}
 use Rattle.ap_host.specs.Disk.{Files}
@@ -11,9 +10,7 @@ use Rattle.package_core.specs.Card.{Card}
 use Rattle.package_list.specs.Lists.{union}
 use Rattle.release_file.specs.Release.{ReleaseView, is_date}
 use Rattle.machine_state.specs.declared.fetched.Fetched.{Fetched}
-use Rattle.machine_state.specs.declared.limit.Limit.{Limit as LimitKind}
 use Rattle.machine_state.specs.declared.limit.Limit.TheVariants.{Mirrors, ReleaseBytes}
-use Rattle.machine_state.specs.declared.limit.Limit.TheVariants as limits
 use Rattle.machine_state.specs.declared.refusal.Refusal.{Refusal}
 use Rattle.machine_state.specs.declared.refusal.Refusal.TheVariants.{InputAbsent, InputMalformed, InputMismatch, Limit, PatternTooLarge}
 use Rattle.machine_state.specs.declared.arrived.Arrived.{Arrived}
@@ -23,8 +20,7 @@ use Rattle.machine_state.specs.declared.arrived.UpdateFault.TheVariants as fault
 use Rattle.machine_state.specs.Limits.{limit_number}
 use Rattle.machine_state.specs.Lists.{IsKnown}
 use Rattle.machine_state.specs.Mirrors.{IsMirror, MirrorLists, RepoLists}
-use Rattle.machine_state.specs.Named.{named}
-use Rattle.machine_state.specs.State.{Valid, mirror_name, mirror_of}
+use Rattle.machine_state.specs.State.{AreRepos, Valid, mirror_name, mirror_of}
 use Rattle.machine_state.specs.Texts.{IsDate}
 use Rattle.machine_state.specs.Values.{MirrorView, StateView}
 use Rattle.machine_state.proofs.KindLemmas.{kind_changed}
@@ -90,8 +86,8 @@ date_is release date said e utf8 =
 pub fits_state : (state : StateView) (name : List ℕ) (fetched : Fetched) → Valid state → FitsWith state.known fetched → FitsIn state name fetched
 fits_state state name fetched v f =
     let more = union state.known fetched.list in
-    let grows = λ p. known_more state.known fetched.list p v.known.sorted in
-    let repos = record { each = v.repos.each; lists = all_so (RepoLists state.known) (RepoLists more) (λ repo. named_grows state.known more grows repo.list) state.repos v.repos.lists; sorted = v.repos.sorted; few = v.repos.few } in
+    let grows : (p : Card) → IsKnown state.known p → IsKnown more p = λ p. known_more state.known fetched.list p v.known.sorted in
+    let repos : AreRepos more state.repos = record { each = v.repos.each; lists = all_so (RepoLists state.known) (RepoLists more) (λ repo. named_grows state.known more grows repo.list) state.repos v.repos.lists; sorted = v.repos.sorted; few = v.repos.few } in
     let w = valid_with state more state.repos v f.list.catalogue repos grows (λ n h. h) in
     record {
       whole = f.list.whole;
@@ -107,6 +103,12 @@ fits_state state name fetched v f =
   where
     good : (m : MirrorView) → IsMirror m → IsMirror (with_fetched fetched m)
     good m h = record { name = h.name; archive = h.archive; distribution = h.distribution; components = h.components; architectures = h.architectures; filter = h.filter; updated = f.date }
+
+pub fetched_fits : (state : StateView) (name : List ℕ) (result : Result Arrived UpdateFault) → Valid state → IfFetched result (FitsWith state.known) → IfFetched result (FitsIn state name)
+fetched_fits state name (Ok (arrivals.List list date)) v h = fits_state state name (record { date = date; list = list }) v h
+fetched_fits state name (Ok arrivals.Nothing) v h = h
+fetched_fits state name (Ok (arrivals.Refused refusal)) v h = h
+fetched_fits state name (Err fault) v h = tt
 
 -- a mirror of a valid state has short paths
 pub mirror_short : (state : StateView) (mirror : MirrorView) → Valid state → mirror_of mirror.name state.mirrors ≡ Some mirror → IsShort mirror
@@ -143,11 +145,11 @@ release_archive mirror faults.OutOfMemory h = tt
 
 -- ---- on any inbox
 pub files_arrive : (map : Option Files) (state : StateView) (mirror : MirrorView) (result : Result Arrived UpdateFault) → ((f : Files) → map ≡ Some f → Brings (Arrives f state.known mirror) result) → IfFetched result (FitsIn state mirror.name) → IfErr result IsArchiveFault → Brings (FilesArrive map state mirror) result
-files_arrive (Some f) state mirror (Ok (arrivals.List list date)) h fits fault = (h f refl, fits)
+files_arrive (Some f) state mirror (Ok (arrivals.List list date)) h fits fault = h f refl
 files_arrive None state mirror (Ok (arrivals.List list date)) h fits fault = fits
 files_arrive map state mirror (Ok arrivals.Nothing) h fits fault = fits
 files_arrive map state mirror (Ok (arrivals.Refused refusal)) h fits fault = fits
-files_arrive (Some f) state mirror (Err (faults.Refused refusal)) h fits fault = (h f refl, fault)
+files_arrive (Some f) state mirror (Err (faults.Refused refusal)) h fits fault = h f refl
 files_arrive None state mirror (Err (faults.Refused refusal)) h fits fault = fault
 files_arrive map state mirror (Err faults.HostFault) h fits fault = tt
 files_arrive map state mirror (Err faults.InboxFault) h fits fault = tt

@@ -1,6 +1,6 @@
 -- An archive arrives for a mirror: its Release is read, the indexes that are wanted of it, and the files of the packages that the filter
 -- chooses.
-use Rattle.std.specs.Prelude.{◌≡◌, ℕ, List, Result, Ok, Err}
+use Rattle.std.specs.Prelude.{◌≡◌, List, Result, Ok, Err}
 use Rattle.ap_text.specs.Paths.{below_folder}
 use Rattle.ap_host.specs.Disk.{Path, Files}
 use Rattle.package_core.specs.Card.{Card}

@@ -1,5 +1,6 @@
 -- The Release of the distribution that a mirror mirrors (the Debian repository format).
 use Rattle.std.specs.Prelude.{◌≡◌, ◌≤◌, ℕ, List, length, Result, Ok, Err, codes}
+use Rattle.std.specs.Global.{Vec}
 use Rattle.ap_text.specs.Paths.{below_folder}
 use Rattle.ap_host.specs.Disk.{Path, Files}
 use Rattle.release_file.specs.Release.{ReleaseView, IsRelease, IsAt}
@@ -61,6 +62,11 @@ FaultMeets P faults.OutOfMemory = Unit {0}
 abbrev pub Meets : {X : Type 0} → (Result X Refusal → Type 0) → Result X UpdateFault → Type 0
 Meets P (Ok x) = P (Ok x)
 Meets P (Err fault) = FaultMeets P fault
+
+-- the same of a call that gives a list in a vector
+abbrev pub MeetsItems : {X : Type 0} → (Result (List X) Refusal → Type 0) → Result (Vec X) UpdateFault → Type 0
+MeetsItems P (Ok v) = P (Ok v.items)
+MeetsItems P (Err fault) = FaultMeets P fault
 
 -- something isn't there, or memory was wanting
 abbrev pub IsAbsentFault : UpdateFault → Type 0

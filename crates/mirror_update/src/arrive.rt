@@ -25,7 +25,7 @@ ghost use Rattle.package_intake.specs.Index.{AreShort, cards_of, entry_for, path
 ghost use Rattle.package_intake.specs.Steps.{FaultGives, Gives, or_refused};
 ghost use Rattle.step_model.specs.Answers.{ToldBy};
 ghost use Rattle.step_model.specs.Refuses.{ArePatterns, IsPick};
-ghost use Rattle.mirror_update.specs.Fetch.{IsShort, Meets, distribution_folder};
+ghost use Rattle.mirror_update.specs.Fetch.{IsShort, MeetsItems, distribution_folder};
 ghost use Rattle.mirror_update.specs.Wanted.{wanted_indexes};
 ghost use Rattle.mirror_update.specs.Indexes.{FaultOfListed, IndexesSay};
 ghost use Rattle.mirror_update.specs.Filter.{chosen_by, conditions_of, queries_of};
@@ -57,7 +57,7 @@ fn read_indexes<I: Inbox>(
     mirror: &Mirror,
     release: &Release,
 ) -> Result<Vec<(Package, SafePath)>, UpdateFault>
-    ensures told { IsShort mirror.now → ForSome (I.map inbox.old) (λ f. Meets (IndexesSay f mirror.now release.now) result) }
+    ensures told { IsShort mirror.now → ForSome (I.map inbox.old) (λ f. MeetsItems (IndexesSay f mirror.now release.now) result) }
     ensures packages { IfOk result (λ v. ArePackages v.items) }
     ensures short { IfOk result (λ v. AreShort v.items) }
     ensures fault { IfErr result IsInputFault }

@@ -8,7 +8,7 @@ ghost use Rattle.index_text.specs.Index.{ArePackages};
 ghost use Rattle.machine_state.specs.declared.arrived.UpdateFault.TheVariants.{HostFault, InboxFault, OutOfMemory};
 ghost use Rattle.package_intake.specs.Index.{AreShort};
 ghost use Rattle.package_intake.specs.Faults.{FaultOfFile, IsInputFault};
-ghost use Rattle.mirror_update.specs.Fetch.{Meets};
+ghost use Rattle.mirror_update.specs.Fetch.{MeetsItems};
 ghost use Rattle.mirror_update.specs.Wanted.{listed_at as file_at, stated_of};
 ghost use Rattle.mirror_update.specs.Indexes.{AreAllRead, FaultOfListed, FaultOfOne, IsIndexRead};
 
@@ -50,7 +50,7 @@ fn read_one<I: Inbox>(
     files: &[Listed],
     name: &SafePath,
 ) -> Result<Vec<(Package, SafePath)>, UpdateFault>
-    ensures told { length (below_folder folder.now name.now) ≤ 1000 → ForSome (I.map inbox.old) (λ f. Meets (IsIndexRead f folder.now files.now name.now) result) }
+    ensures told { length (below_folder folder.now name.now) ≤ 1000 → ForSome (I.map inbox.old) (λ f. MeetsItems (IsIndexRead f folder.now files.now name.now) result) }
     ensures packages { IfOk result (λ v. ArePackages v.items) }
     ensures short { IfOk result (λ v. AreShort v.items) }
     ensures fault { IfErr result IsInputFault }
@@ -76,7 +76,7 @@ pub(crate) fn read_all<I: Inbox>(
     files: &[Listed],
     names: &[SafePath],
 ) -> Result<Vec<(Package, SafePath)>, UpdateFault>
-    ensures told { All (λ name. length (below_folder folder.now name) ≤ 1000) names.now → ForSome (I.map inbox.old) (λ f. Meets (AreAllRead f folder.now files.now names.now) result) }
+    ensures told { All (λ name. length (below_folder folder.now name) ≤ 1000) names.now → ForSome (I.map inbox.old) (λ f. MeetsItems (AreAllRead f folder.now files.now names.now) result) }
     ensures packages { IfOk result (λ v. ArePackages v.items) }
     ensures short { IfOk result (λ v. AreShort v.items) }
     ensures fault { IfErr result IsInputFault }

@@ -4,8 +4,10 @@
 mod arrive;
 mod filter;
 mod indexes;
+mod laws;
 mod release;
 mod wanted;
 
 pub use arrive::update;
+pub use laws::archives_fit;
 pub use release::fetch_release;

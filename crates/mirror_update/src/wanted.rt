@@ -63,7 +63,7 @@ fn name_of_index(alloc: Global, component: &Name, arch: &Name) -> Result<SafePat
     ensures short { IfOk result (λ path. length path ≤ 417) }
 {
     let rest = rest_of(alloc, arch)?;
-    let folder = SafePath::of_name(alloc, component)?;
+    let folder = SafePath::fixed(alloc, component.as_str())?;
     SafePath::joined(alloc, &folder, &rest)
 }
 

@@ -1,4 +1,4 @@
-use Rattle.std.proofs.Common.{◌≡◌, List, Ok, IfErr, sym, ap, ◌∙◌, subst, subst₂, Result}
+use Rattle.std.proofs.Common.{◌≡◌, List, Ok, sym, ap, ◌∙◌, subst}
 use Rattle.std.proofs.lemmas.Result.{err_from_is_err_and}
 use Rattle.std.specs.Result.{MatchResult}
 use Rattle.ap_host.specs.Disk.{Path}
@@ -7,7 +7,7 @@ use Rattle.machine_state.specs.declared.limit.Limit.TheVariants.{ReleaseBytes}
 use Rattle.package_intake.specs.Index.{IsUnreadFault, bytes_within}
 use Rattle.package_intake.specs.Steps.{FaultGives}
 use Rattle.package_intake.proofs.FaultLemmas.{handed_on}
-use Rattle.mirror_update.specs.Fetch.{IsFetched, IsMalformedBy, IsReleaseText, release_path}
+use Rattle.mirror_update.specs.Fetch.{IsFetched, IsMalformedBy, IsReleaseText}
 use Rattle.mirror_update.specs.Answers.{IsReleaseFault}
 use Rattle.mirror_update.proofs.FetchLemmas.{absent_release, malformed_of, memory_meets, met_err, release_fault, release_said, some_release, unread_release}
 use Rattle.mirror_update.proofs.release.fetch_release.Goals as goal
