@@ -2,7 +2,7 @@ use Rattle.step_model.specs.Names.{bad_name}
 use Rattle.step_model.proofs.FaultLemmas.{at_exit, second_decides}
 use Rattle.mirror_ops.specs.Cases.{unknown}
 use Rattle.mirror_ops.proofs.CaseLemmas.{unknown_along}
-use Rattle.mirror_ops.proofs.early.drop_early.Goals as goal
+use Rattle.mirror_ops.proofs.early.name_early.Goals as goal
 
 pub returns-in_err-there-clause-fault : goal.returns-in_err-there-clause-fault
 returns-in_err-there-clause-fault c = λ v.
