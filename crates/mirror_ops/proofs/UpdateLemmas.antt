@@ -17,6 +17,7 @@ use Rattle.machine_state.specs.declared.arrived.Arrived.TheVariants as arrivals
 use Rattle.machine_state.specs.declared.fetched.Fetched.{Fetched}
 use Rattle.machine_state.specs.Lists.{IsKnown, IsNamedList}
 use Rattle.machine_state.specs.Mirrors.{MirrorLists}
+use Rattle.machine_state.specs.Named.{changed}
 use Rattle.machine_state.specs.State.{Valid, mirror_name, mirror_of}
 use Rattle.machine_state.specs.Values.{MirrorView, StateView}
 use Rattle.machine_state.proofs.NamedLemmas.{changed_same, named_changed}
@@ -135,6 +136,11 @@ module _ (state : StateView) (name : List ℕ) (mirror : MirrorView) (fetched : 
 
       itself : has_fetched (Some fetched) fetched ≡ true
       itself = ap (λ (b : Bool). b && same_members fetched.list fetched.list) ((bytes_eq-Decides fetched.date fetched.date).1 refl) ∙ members_itself fetched.list
+
+-- the state with the new mirror in its place, and more known
+pub updated_is : (state new : StateView) (mirror made : MirrorView) (fetched : Fetched) (known : List Card) → made ≡ with_fetched fetched mirror → new ≡ record state { mirrors = changed mirror_name made.name (with_fetched fetched) state.mirrors }
+    → known ≡ union state.known fetched.list → record new { known = known } ≡ updated state mirror.name fetched
+updated_is state new mirror made fetched known m h k = (λ i. record (h i) { known = k i }) ∙ ap (λ (x : MirrorView). updated state x.name fetched) m
 
 -- ---- what it comes to
 

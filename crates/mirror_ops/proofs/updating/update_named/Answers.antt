@@ -19,13 +19,13 @@ pub returns-in-Nothing-clause-fault : goal.returns-in-Nothing-clause-fault
 returns-in-Nothing-clause-fault c = λ inbox v m.
     inr (update_comes c.args.state.now c.args.name.now c.args.arrived.now _ (c.in_ok-mirror.ensures.good v) (ap (taken_in c.args.state.now c.args.name.now) c.in-Nothing.is))
 
-pub returns-in-Refused-clause-fault : goal.returns-in-Refused-clause-fault
-returns-in-Refused-clause-fault c = λ inbox v m.
+pub returns-in_ok-copy-in-Refused-clause-fault : goal.returns-in_ok-copy-in-Refused-clause-fault
+returns-in_ok-copy-in-Refused-clause-fault c = λ inbox v m.
     inr (update_comes c.args.state.now c.args.name.now c.args.arrived.now _ (c.in_ok-mirror.ensures.good v)
     (ap (taken_in c.args.state.now c.args.name.now) c.in-Refused.is ∙ ap refuses (sym c.in_ok-copy-in-Refused.ensures)))
 
-pub returns-clause-ok : goal.returns-clause-ok
-returns-clause-ok c = λ inbox v m.
+pub returns-in-List-clause-ok : goal.returns-in-List-clause-ok
+returns-in-List-clause-ok c = λ inbox v m.
     let state = c.args.state.now in
     let name = c.args.name.now in
     let mirror = c.in_ok-mirror.mirror.now in
@@ -40,8 +40,8 @@ returns-clause-ok c = λ inbox v m.
     (ap (λ (n : List ℕ). mirror_of n state.mirrors) same ∙ found)
     (subst (λ (n : List ℕ). FitsIn state n (record { date = c.in-List.date; list = c.in-List.list })) (sym same) fits))
 
-pub returns-clause-fault : goal.returns-clause-fault
-returns-clause-fault c = λ inbox v m.
+pub returns-in-List-clause-fault : goal.returns-in-List-clause-fault
+returns-in-List-clause-fault c = λ inbox v m.
     let state = c.args.state.now in
     let name = c.args.name.now in
     let mirror = c.in_ok-mirror.mirror.now in
@@ -51,8 +51,8 @@ returns-clause-fault c = λ inbox v m.
     err_map c.take_in.result _ _ (λ fault h. fault_memory _ fault h)
     (c.take_in.ensures.fits (subst (λ (n : List ℕ). FitsIn state n (record { date = c.in-List.date; list = c.in-List.list })) (sym same) fits))
 
-pub returns-clause-new : goal.returns-clause-new
-returns-clause-new c = λ v.
+pub returns-in-List-clause-new : goal.returns-in-List-clause-new
+returns-in-List-clause-new c = λ v.
     let state = c.args.state.now in
     let found = c.in_ok-mirror.ensures.found v in
     c.take_in.ensures.new v (ap (λ (n : List ℕ). mirror_of n state.mirrors) (named_has mirror_name c.args.name.now state.mirrors c.in_ok-mirror.mirror.now found) ∙ found)
