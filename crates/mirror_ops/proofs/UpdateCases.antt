@@ -27,7 +27,7 @@ use Rattle.step_model.specs.Lawful.{IfChanges, IfRefuses, IsFrom, IsLawful}
 use Rattle.step_model.proofs.OwnLemmas.{OwnOr}
 use Rattle.step_model.proofs.RefusalLemmas.{passes, reads_on}
 use Rattle.mirror_ops.specs.Cases.{ArchiveArrives, ArrivesFor, MayArrive, MirrorArrives, bad_mirror, taken_in, update_case}
-use Rattle.mirror_ops.proofs.LawLemmas.{line_some, own_mirror}
+use Rattle.mirror_ops.proofs.LawLemmas.{line_some, own_called}
 
 -- ---- what it comes to
 
@@ -109,7 +109,7 @@ update_law fit inbox state name = record {
   valid = λ v early late arrived may. taken_valid fit inbox state name arrived v may;
   says = λ arrived. taken_says state name arrived;
   knows = λ arrived. taken_knows state name arrived;
-  early = own_mirror state name;
+  early = own_called state name;
   late = tt;
   comes = λ arrived may. taken_refuses inbox state name arrived may;
 }

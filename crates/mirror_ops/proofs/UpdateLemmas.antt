@@ -1,6 +1,6 @@
 -- What an update of a mirror comes to, by how it goes.
-use Rattle.std.proofs.Common.{◌≡◌, ◌≢◌, ℕ, Bool, true, false, ◌&&◌, cond, List, [], ◌∷◌, length, Option, Some, None, Ok, Err, All, true≢false, refl, sym, ap, subst, ◌∙◌, Ordering, Equal}
-use Rattle.std.specs.Ordering.{is_eq}
+use Rattle.std.proofs.Common.{◌≡◌, ◌≢◌, ℕ, suc, ◌+◌, ◌<◌, Bool, true, false, ◌&&◌, List, [], ◌∷◌, length, map, drop, get_or, Option, Some, None, Ok, Err, All, true≢false, refl, sym, ap, subst, ◌∙◌, Ordering, Less, Equal, Greater}
+use Rattle.std.specs.Ordering.{is_eq, is_ne}
 use Rattle.std.specs.Str.{bytes_eq}
 use Rattle.std.specs.Option.{option_map}
 use Rattle.std.specs.List.{AllByRecursion}
@@ -12,9 +12,12 @@ use Rattle.package_core.specs.Order.{package_cmp}
 use Rattle.package_core.proofs.OrderLaws.{package_total}
 use Rattle.package_list.specs.Sorted.{IsAscending, equal_of}
 use Rattle.package_list.specs.Lists.{has_member, union}
+use Rattle.package_list.proofs.SortedLemmas.{drop_at_member}
+use Rattle.machine_state.specs.declared.arrived.Arrived.TheVariants as arrivals
 use Rattle.machine_state.specs.declared.fetched.Fetched.{Fetched}
 use Rattle.machine_state.specs.Lists.{IsKnown, IsNamedList}
 use Rattle.machine_state.specs.Mirrors.{MirrorLists}
+use Rattle.machine_state.specs.Named.{changed}
 use Rattle.machine_state.specs.State.{Valid, mirror_name, mirror_of}
 use Rattle.machine_state.specs.Values.{MirrorView, StateView}
 use Rattle.machine_state.proofs.NamedLemmas.{changed_same, named_changed}
@@ -23,6 +26,9 @@ use Rattle.package_intake.proofs.LawLemmas.{union_has}
 use Rattle.package_intake.proofs.ListLemmas.{all_map, each_of, equal_is, found_alike, found_has}
 use Rattle.package_intake.proofs.TakenLemmas.{find_holds}
 use Rattle.mirror_update.specs.Fits.{FitsIn, updated, with_fetched}
+use Rattle.reply_text.specs.Mirrors as replies
+use Rattle.step_model.specs.Case.{changes}
+use Rattle.mirror_ops.specs.Cases.{taken_in}
 use Rattle.mirror_ops.specs.Updates.{has_fetched, same_members}
 
 -- ---- lists of equal members
@@ -45,6 +51,22 @@ lengths_differ (x ∷ xs) (y ∷ ys) h = by_order (is_eq (package_cmp x y)) (len
     by_order : (b : Bool) → same_members xs ys ≡ false → (b && same_members xs ys) ≡ false
     by_order true more = more
     by_order false more = refl
+
+-- one more of both
+pub members_on : {A : Type 0} (f : A → Card) (xs ys : List A) (i : ℕ) (x y : A) → i < length xs → i < length ys → x ≡ get_or xs i x → y ≡ get_or ys i y
+    → same_members (drop i (map f xs)) (drop i (map f ys)) ≡ (is_eq (package_cmp (f x) (f y)) && same_members (drop (i + 1) (map f xs)) (drop (i + 1) (map f ys)))
+members_on f xs ys i x y l m at here = (λ j. same_members (drop_at_member f xs i x l at j) (drop_at_member f ys i y m here j))
+
+-- of which the first two aren't equal, or are
+pub differ_here : (o : Ordering) (rest : Bool) → is_ne o ≡ true → (is_eq o && rest) ≡ false
+differ_here Less rest h = refl
+differ_here Equal rest h = cc
+differ_here Greater rest h = refl
+
+pub equal_here : (o : Ordering) (rest : Bool) → is_ne o ≡ false → (is_eq o && rest) ≡ rest
+equal_here Less rest h = cc
+equal_here Equal rest h = refl
+equal_here Greater rest h = cc
 
 -- a list has the members of itself
 pub members_itself : (xs : List Card) → same_members xs xs ≡ true
@@ -72,7 +94,7 @@ known_joins known list a k = union_has known list a (all_map (IsKnown known) (λ
 lists_of : (known : List Card) (name : List ℕ) (mirrors : List MirrorView) (mirror : MirrorView) → All (MirrorLists known) mirrors → mirror_of name mirrors ≡ Some mirror → MirrorLists known mirror
 lists_of known name mirrors mirror all found = find_holds (MirrorLists known) (λ (m : MirrorView). bytes_eq m.name name) mirrors mirror (each_of (MirrorLists known) mirrors all) found
 
-updated_in : Option MirrorView → Option Fetched
+abbrev updated_in : Option MirrorView → Option Fetched
 updated_in None = None
 updated_in (Some mirror) = mirror.updated
 
@@ -114,3 +136,25 @@ module _ (state : StateView) (name : List ℕ) (mirror : MirrorView) (fetched : 
 
       itself : has_fetched (Some fetched) fetched ≡ true
       itself = ap (λ (b : Bool). b && same_members fetched.list fetched.list) ((bytes_eq-Decides fetched.date fetched.date).1 refl) ∙ members_itself fetched.list
+
+-- the state with the new mirror in its place, and more known
+pub updated_is : (state new : StateView) (mirror made : MirrorView) (fetched : Fetched) (known : List Card) → made ≡ with_fetched fetched mirror → new ≡ record state { mirrors = changed mirror_name made.name (with_fetched fetched) state.mirrors }
+    → known ≡ union state.known fetched.list → record new { known = known } ≡ updated state mirror.name fetched
+updated_is state new mirror made fetched known m h k = (λ i. record (h i) { known = k i }) ∙ ap (λ (x : MirrorView). updated state x.name fetched) m
+
+-- ---- what it comes to
+
+module _ (state : StateView) (mirror : MirrorView) (fetched : Fetched) (reply : List ℕ) (count : ℕ) where
+  -- a mirror that has fetched just this
+  pub taken_none : mirror_of mirror.name state.mirrors ≡ Some mirror → Valid state → FitsIn state mirror.name fetched → has_fetched mirror.updated fetched ≡ true → reply ≡ replies.mirror_updated mirror.name count → count ≡ length fetched.list
+      → taken_in state mirror.name (arrivals.List fetched.list fetched.date) ≡ changes reply state
+  taken_none found v f has e n =
+      ap (changes (replies.mirror_updated mirror.name (length fetched.list))) (updated_same state mirror.name mirror fetched found v f has)
+      ∙ ap (λ (r : List ℕ). changes r state) (sym (e ∙ ap (replies.mirror_updated mirror.name) n))
+
+  -- and another
+  pub taken_some : (new : StateView) → reply ≡ replies.mirror_updated mirror.name count → count ≡ length fetched.list → new ≡ updated state mirror.name fetched
+      → taken_in state mirror.name (arrivals.List fetched.list fetched.date) ≡ changes reply new
+  taken_some new e n is =
+      ap (changes (replies.mirror_updated mirror.name (length fetched.list))) (sym is)
+      ∙ ap (λ (r : List ℕ). changes r new) (sym (e ∙ ap (replies.mirror_updated mirror.name) n))

@@ -76,8 +76,8 @@ pub(crate) fn rename_early(
     Ok((before, after))
 }
 
-/// The name of the mirror that is to be dropped.
-pub(crate) fn drop_early(alloc: Global, state: &State, text: &Text) -> Result<Name, ChangeFault>
+/// The name of the mirror that a text names.
+pub(crate) fn name_early(alloc: Global, state: &State, text: &Text) -> Result<Name, ChangeFault>
     ensures good { Valid state.now → OnOk result (bad_mirror state.now text.now ≡ None) }
     ensures fault { Valid state.now → IfErr result (IsFirst (bad_mirror state.now text.now)) }
     ensures name { IfOk result (λ name. name ≡ text.now) }

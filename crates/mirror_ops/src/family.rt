@@ -9,7 +9,7 @@ ghost use Rattle.step_model.specs.Refuses.{Refuses};
 ghost use Rattle.mirror_ops.specs.Cases.{ArrivesFor, create_case, drop_case, mirror_case, rename_case, show_case, update_case};
 
 use crate::creation::create;
-use crate::early::{create_early, drop_early, named_mirror, rename_early};
+use crate::early::{create_early, name_early, named_mirror, rename_early};
 use crate::naming::{drop, rename};
 use crate::settings::filter_of;
 use crate::shown::{list, show};
@@ -55,8 +55,8 @@ fn update_needs(alloc: Global, state: &State, name: &Text) -> Result<Reading, Ch
     ensures ok { Valid state.now → IfOk result (IsWanted None (update_case state.now name.now)) }
     ensures fault { Valid state.now → IfErr result (FaultIs (λ refusal. Refuses None (update_case state.now name.now) (Some refusal))) }
 {
-    let mirror = named_mirror(alloc, state, name)?;
-    Ok(Reading::Mirror(mirror.name.copy(alloc)?))
+    let name = name_early(alloc, state, name)?;
+    Ok(Reading::Mirror(name))
 }
 
 fn show_needs(alloc: Global, state: &State, name: &Text) -> Result<Reading, ChangeFault>
@@ -84,7 +84,7 @@ fn drop_needs(alloc: Global, state: &State, name: &Text) -> Result<Reading, Chan
     ensures ok { Valid state.now → IfOk result (IsWanted None (drop_case state.now name.now)) }
     ensures fault { Valid state.now → IfErr result (FaultIs (λ refusal. Refuses None (drop_case state.now name.now) (Some refusal))) }
 {
-    drop_early(alloc, state, name)?;
+    name_early(alloc, state, name)?;
     Ok(Reading::Nothing)
 }
 

@@ -8,7 +8,7 @@ ghost use Rattle.machine_state.specs.declared.arrived.Arrived.{Arrived};
 ghost use Rattle.step_model.specs.Answers.{ChangesTo, FaultIs, IsNew, IsRefusedFor};
 ghost use Rattle.mirror_ops.specs.Cases.{IsDrop, IsRename, called, drop_case, mirror_case, mirror_renamed_in, rename_case, without_mirror};
 
-use crate::early::{drop_early, rename_early};
+use crate::early::{name_early, rename_early};
 use ap_text::Name;
 use command_value::Command;
 use control_stanza::Text;
@@ -98,7 +98,7 @@ fn drop_named(alloc: Global, state: &State, name: &Text) -> Result<Change, Chang
     ensures fault { (arrived : Arrived) → Valid state.now → IfErr result (FaultIs (IsRefusedFor None (drop_case state.now name.now) arrived)) }
     ensures new { Valid state.now → IfOk result (λ change. IsNew state.now change.state) }
 {
-    let name = drop_early(alloc, state, name)?;
+    let name = name_early(alloc, state, name)?;
     let reply = mirror_dropped(alloc, &name)?;
     Ok(Change {
         state: Some(state_without(alloc, state, &name)?),

@@ -3,8 +3,11 @@ ghost use Rattle.std.specs.Prelude.{◌≡◌, ◌≤◌, List, ℕ, Option, IfO
 ghost use Rattle.ap_host.specs.Disk.{Files};
 ghost use Rattle.command_value.specs.Plain.{MirrorCommand, plain, of_mirror};
 ghost use Rattle.machine_state.specs.Ascending.{IsAscending};
-ghost use Rattle.machine_state.specs.State.{Valid, mirror_cmp, mirror_of};
+ghost use Rattle.machine_state.specs.Named.{changed};
+ghost use Rattle.machine_state.specs.State.{Valid, mirror_cmp, mirror_name, mirror_of};
+ghost use Rattle.machine_state.specs.Values.{MirrorView};
 ghost use Rattle.machine_state.specs.declared.arrived.Arrived.TheVariants as arrivals;
+ghost use Rattle.machine_state.specs.declared.fetched.Fetched.{Fetched};
 ghost use Rattle.package_list.specs.Lists.{union};
 ghost use Rattle.package_list.specs.declared.list.TheConstants.{MOST_KNOWN};
 ghost use Rattle.mirror_update.specs.Fits.{FitsIn, updated, with_fetched};
@@ -82,6 +85,15 @@ fn joined(alloc: Global, known: &PackageList, list: &PackageList) -> Result<Pack
     }
 }
 
+/// The state with this mirror in the place of that of its name.
+fn with_mirror(alloc: Global, state: &State, made: Mirror) -> Result<State, AllocError>
+    ensures { (mirror : MirrorView) (fetched : Fetched) → IsAscending mirror_cmp state.now.mirrors → mirror_of made.name state.now.mirrors ≡ Some mirror → made ≡ with_fetched fetched mirror → IfOk result (λ new. new ≡ record state.now { mirrors = changed mirror_name made.name (with_fetched fetched) state.now.mirrors }) }
+{
+    let mut state = state.copy(alloc)?;
+    set_named(&mut state.mirrors, made);
+    Ok(state)
+}
+
 /// The state in which the mirror, which is one of it, has fetched this.
 fn state_with(
     alloc: Global,
@@ -95,9 +107,8 @@ fn state_with(
 {
     let known = joined(alloc, &state.known, list)?;
     let fetched = fetched_by(alloc, mirror, list, date)?;
-    let mut made = state.copy(alloc)?;
+    let mut made = with_mirror(alloc, state, fetched)?;
     made.known = known;
-    set_named(&mut made.mirrors, fetched);
     Ok(made)
 }
 

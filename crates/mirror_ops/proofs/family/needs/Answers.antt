@@ -20,6 +20,19 @@ pub returns-in-MirrorCreate-clause-fault : goal.returns-in-MirrorCreate-clause-f
 unfolding mirror_case
 returns-in-MirrorCreate-clause-fault g c = λ k e v. told_along _ _ _ _ _ c.create_needs.result (case_along c.args.state.now c.args.command.now k _ e (ap plain c.in-MirrorCreate.is ∙ ap (λ (q : List (List ℕ)). of_mirror (mirror_create (option_map (λ v. v.items) c.in-MirrorCreate.architectures) c.in-MirrorCreate.filter c.in-MirrorCreate.filter_with_deps c.in-MirrorCreate.name c.in-MirrorCreate.archive c.in-MirrorCreate.distribution q)) (sym c.deref.ensures.value))) (c.create_needs.ensures.fault c.in-MirrorCreate.filter_with_deps v)
 
+pub returns-in-MirrorUpdate-clause-ok : goal.returns-in-MirrorUpdate-clause-ok
+unfolding mirror_case
+returns-in-MirrorUpdate-clause-ok g c = λ k e v. wanted_along None _ _ c.update_needs.result (case_along c.args.state.now c.args.command.now k _ e (ap plain c.in-MirrorUpdate.is)) (c.update_needs.ensures.ok v)
+
+pub returns-in-MirrorUpdate-clause-fault : goal.returns-in-MirrorUpdate-clause-fault
+unfolding mirror_case
+returns-in-MirrorUpdate-clause-fault g c = λ k e v.
+    none_told _ _ _ (λ large refusal. Refuses large (mirror_case c.args.state.now k) (Some refusal)) c.update_needs.result
+    (refuses_along None _ _ c.update_needs.result (case_along c.args.state.now c.args.command.now k _ e (ap plain c.in-MirrorUpdate.is)) (c.update_needs.ensures.fault v))
+
+pub returns-in-MirrorUpdate-clause-kept : goal.returns-in-MirrorUpdate-clause-kept
+returns-in-MirrorUpdate-clause-kept g c = keeps_same _ c.update_needs.result
+
 pub returns-in-MirrorShow-clause-ok : goal.returns-in-MirrorShow-clause-ok
 unfolding mirror_case
 returns-in-MirrorShow-clause-ok g c = λ k e v. wanted_along None _ _ c.show_needs.result (case_along c.args.state.now c.args.command.now k _ e (ap plain c.in-MirrorShow.is)) (c.show_needs.ensures.ok _ v)
@@ -65,4 +78,4 @@ returns-in-MirrorList-clause-ok g c = λ k e v. subst (λ (q : Case). IsWanted N
 pub returns-in_default-clause-fault : goal.returns-in_default-clause-fault
 returns-in_default-clause-fault g c = λ k e v.
     let d = c.in_default in
-    (None, tt, refuses_first None _ NotBuilt (other_early c.args.command.now d.not-MirrorCreate d.not-MirrorList d.not-MirrorShow d.not-MirrorRename d.not-MirrorDrop c.args.state.now k e))
+    (None, tt, refuses_first None _ NotBuilt (other_early c.args.command.now d.not-MirrorCreate d.not-MirrorUpdate d.not-MirrorList d.not-MirrorShow d.not-MirrorRename d.not-MirrorDrop c.args.state.now k e))

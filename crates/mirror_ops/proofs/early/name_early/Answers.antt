@@ -2,7 +2,7 @@ use Rattle.step_model.specs.Names.{bad_name}
 use Rattle.step_model.proofs.FaultLemmas.{at_exit, second_decides}
 use Rattle.mirror_lists.specs.Mirrors.{unknown_mirror}
 use Rattle.mirror_lists.proofs.MirrorLemmas.{mirror_along}
-use Rattle.mirror_ops.proofs.early.drop_early.Goals as goal
+use Rattle.mirror_ops.proofs.early.name_early.Goals as goal
 
 pub returns-in_err-mirror_there-clause-fault : goal.returns-in_err-mirror_there-clause-fault
 returns-in_err-mirror_there-clause-fault c = λ v.
