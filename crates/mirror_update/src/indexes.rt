@@ -1,13 +1,12 @@
 //! The indexes of an archive are read.
-ghost use Rattle.std.specs.Prelude.{◌≡◌, ◌≤◌, ◌++◌, IfOk, IfErr, IfSome, All, length};
-ghost use Rattle.std.specs.List.{AllByRecursion};
+ghost use Rattle.std.specs.Prelude.{◌≡◌, ◌≤◌, IfOk, IfErr, All, length};
 ghost use Rattle.std.specs.Option.{ForSome, option_copied};
 ghost use Rattle.ap_text.specs.Paths.{below_folder};
 ghost use Rattle.ap_host.specs.Calls.{CauseOf};
 ghost use Rattle.index_text.specs.Index.{ArePackages};
-ghost use Rattle.machine_state.specs.declared.arrived.UpdateFault.TheVariants.{HostFault, InboxFault, OutOfMemory};
+ghost use Rattle.machine_state.specs.declared.arrived.UpdateFault.TheVariants.{InboxFault};
 ghost use Rattle.package_intake.specs.Index.{AreShort};
-ghost use Rattle.package_intake.specs.Faults.{FaultOfFile, IsInputFault};
+ghost use Rattle.package_intake.specs.Faults.{IsInputFault};
 ghost use Rattle.mirror_update.specs.Fetch.{MeetsItems};
 ghost use Rattle.mirror_update.specs.Wanted.{listed_at as file_at, stated_of};
 ghost use Rattle.mirror_update.specs.Indexes.{AreAllRead, FaultOfListed, FaultOfOne, IsIndexRead};

@@ -1,5 +1,5 @@
 //! Which indexes of an archive are wanted for a mirror.
-ghost use Rattle.std.specs.Prelude.{◌≡◌, ◌++◌, ◌≤◌, IfOk, OnOk, All, map, codes, length, string_bytes};
+ghost use Rattle.std.specs.Prelude.{◌≡◌, ◌++◌, ◌≤◌, IfOk, OnOk, All, map, length, string_bytes};
 ghost use Rattle.mirror_update.specs.Wanted.{AreShortNames, arch_folder, arch_index, index_name, indexes_of, or_those, wanted_architectures, wanted_components, wanted_indexes};
 
 use ap_text::{Name, SafePath};
