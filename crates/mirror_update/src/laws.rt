@@ -11,8 +11,8 @@ ghost use Rattle.mirror_update.specs.Answers.{IsArchiveRefusal, Updates};
 ghost use Rattle.mirror_update.specs.Fits.{FitsIn};
 
 /// What arrives of an archive fits the state that it arrives for: its packages are whole, its date is one line of at most 200 bytes, and
-/// the state in which the mirror has fetched it is valid. What is refused of it is refused for a step of an arrival. Of each
-/// archive something arrives, or it is refused, whichever pattern was too large.
+/// the state in which the mirror has fetched it is valid. What is refused of it is refused for a step of an arrival. Of each archive
+/// something arrives, or it is refused, whichever pattern was too large.
 pub fn archives_fit()
     ensures fits { (files : Files) (state : StateView) (mirror : MirrorView) (fetched : Fetched) → Valid state → mirror_of mirror.name state.mirrors ≡ Some mirror → Arrives files state.known mirror (Ok fetched) → FitsIn state mirror.name fetched }
     ensures refuses { (files : Files) (known : List Card) (mirror : MirrorView) (refusal : Refusal) → Arrives files known mirror (Err refusal) → IsArchiveRefusal refusal }
