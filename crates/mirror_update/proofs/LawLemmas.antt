@@ -1,6 +1,6 @@
 -- What arrives of an archive fits, and what is refused is refused for a step of an arrival.
-use Rattle.std.proofs.Common.{◌≡◌, ◌≤◌, ℕ, Bool, true, false, cond, List, [], ◌∷◌, ◌++◌, length, Option, Some, None, IfErr, Result, Ok, Err, codes, refl, sym, ap, ◌∙◌, subst, nat_lt, ltb-false, find}
-use Rattle.std.specs.List.{All, AllByRecursion, list_all}
+use Rattle.std.proofs.Common.{◌≡◌, ℕ, Bool, true, false, cond, List, [], ◌∷◌, length, Option, Some, None, IfErr, Result, Ok, Err, codes, refl, sym, ap, ◌∙◌, subst, nat_lt, ltb-false, find}
+use Rattle.std.specs.List.{AllByRecursion, list_all}
 use Rattle.std.specs.Option.{option_map}
 use Rattle.std.specs.Prelude.{unwrap_or}
 use Rattle.std.specs.Result.{MatchResult}
@@ -14,7 +14,6 @@ use Rattle.control_stanza.specs.declared.stanza.Field.{Field}
 use Rattle.control_stanza.specs.Fields.{are_distinct, is_field, is_stanza, same_name, value_of}
 use Rattle.control_stanza.specs.Lines.{lines_of}
 use Rattle.digest_set.specs.declared.facts.Digests.{Digests}
-use Rattle.digest_set.specs.declared.facts.Said.{Said}
 use Rattle.digest_set.specs.declared.facts.What.{What}
 use Rattle.digest_set.specs.Difference.{difference}
 use Rattle.digest_set.specs.Facts.{digests_of}
@@ -26,20 +25,19 @@ use Rattle.package_list.specs.declared.fault.ListFault.TheVariants as list_fault
 use Rattle.package_list.specs.Answers.{join_answer}
 use Rattle.package_list.specs.Lists.{joined, union}
 use Rattle.release_file.specs.declared.listing.Listed.{Listed}
-use Rattle.release_file.specs.Release.{IsRelease, ReleaseView}
+use Rattle.release_file.specs.Release.{ReleaseView}
 use Rattle.index_text.specs.Index.{ArePackages}
 use Rattle.machine_state.specs.declared.fetched.Fetched.{Fetched}
 use Rattle.machine_state.specs.declared.limit.Limit.TheVariants.{Catalogue, File, Index, Known, Packages, ReleaseBytes}
 use Rattle.machine_state.specs.declared.refusal.Refusal.{Refusal}
-use Rattle.machine_state.specs.declared.refusal.Refusal.TheVariants.{InputAbsent, InputMalformed, InputMismatch, Limit}
+use Rattle.machine_state.specs.declared.refusal.Refusal.TheVariants.{InputMalformed, Limit}
 use Rattle.machine_state.specs.declared.arrived.UpdateFault.TheVariants as faults
 use Rattle.machine_state.specs.Limits.{limit_number}
 use Rattle.machine_state.specs.State.{IsCatalogue, Valid, text_length}
-use Rattle.machine_state.specs.Texts.{IsDate}
 use Rattle.machine_state.specs.Values.{MirrorView, StateView}
 use Rattle.package_intake.specs.Catalogue.{within_catalogue}
 use Rattle.package_intake.specs.Faults.{IsInputRefusal}
-use Rattle.package_intake.specs.Index.{IndexEntry, IsIndex, bytes_within, cards_of, or_differs, or_malformed, path_of, stated_bytes}
+use Rattle.package_intake.specs.Index.{IndexEntry, IsIndex, bytes_within, cards_of, or_differs, or_malformed, path_of}
 use Rattle.package_intake.specs.Inside.{IsCompleted}
 use Rattle.package_intake.specs.Steps.{and_then, or_refused}
 use Rattle.package_intake.specs.Taking.{AreTakenIn, IsTakenIn, agreed, compared, each_taken, facts_of, known_of, of_known_or_file, standing, taken_file}
@@ -49,9 +47,9 @@ use Rattle.package_intake.proofs.ListLemmas.{all_append, each_of}
 use Rattle.package_intake.proofs.StanzaLemmas.{all_good}
 use Rattle.package_intake.proofs.TakenLemmas.{AreDigests, completed_taken, find_holds, of_bytes, of_card}
 use Rattle.mirror_update.specs.Fetch.{IsFetched, distribution_folder, IsReleaseText, ReadBy, release_path}
-use Rattle.mirror_update.specs.Indexes.{AreAllRead, AreRead, IndexesSay, IsIndexRead, listed_bytes}
+use Rattle.mirror_update.specs.Indexes.{AreAllRead, AreRead, IsIndexRead, listed_bytes}
 use Rattle.mirror_update.specs.Wanted.{listed_at, stated_of, wanted_indexes}
-use Rattle.mirror_update.specs.Arrival.{Arrives, ReleaseArrives, chosen_of, dated, entries_arrive, files_arrive, knowable, list_arrives}
+use Rattle.mirror_update.specs.Arrival.{Arrives, ReleaseArrives, chosen_of, dated, entries_arrive, knowable, list_arrives}
 use Rattle.mirror_update.specs.Fits.{FitsIn, FitsWith, IsKnowable}
 use Rattle.mirror_update.specs.Answers.{IsArchiveRefusal, IsSomeRelease, chosen_in}
 use Rattle.mirror_update.proofs.TakeLemmas.{chosen_good, chosen_knowable}

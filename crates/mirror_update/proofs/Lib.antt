@@ -6,3 +6,5 @@ pub mod FilterLemmas
 pub mod TakeLemmas
 pub mod UpdateLemmas
 pub mod LawLemmas
+pub mod ReleaseTotal
+pub mod TotalLemmas
