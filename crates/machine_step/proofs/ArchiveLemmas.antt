@@ -76,7 +76,7 @@ some_mirror some large inbox state name (Some mirror) = let u = some large inbox
 
 -- ---- why it is refused
 
-input_own : (refusal : Refusal) → IsInputRefusal refusal → IsOwn refusal
+pub input_own : (refusal : Refusal) → IsInputRefusal refusal → IsOwn refusal
 input_own NotBuilt w = w
 input_own (BadPattern query test) w = w
 input_own (PatternTooLarge query test) w = w
@@ -100,7 +100,7 @@ module _ (law : RefusesArchive) (large : Option (List ℕ)) (inbox : Option File
 
   pick_own : (pick : Option Refusal) → IsPick large (conditions_of mirror) pick → PickArrives pick inbox state mirror (Err refusal) → IsOwn refusal ⊎ IsPatternRefusal large (conditions_of mirror) refusal
   pick_own None legal comes = inl (files_own inbox comes)
-  pick_own (Some r) legal comes = inr (subst (IsPatternRefusal large (conditions_of mirror)) (same comes) legal)
+  pick_own (Some r) legal comes = inr (subst (λ (x : Refusal). IsPatternRefusal large (conditions_of mirror) x) (same comes) legal)
     where
       same : Err refusal ≡ Err r → r ≡ refusal
       same e = cc

@@ -16,7 +16,7 @@ use Rattle.repo_packages.proofs.PackageLaws.{add_law, copy_law, import_law, move
 use Rattle.local_repo.proofs.LawfulLemmas as repos
 use Rattle.package_intake.proofs.TotalLemmas.{some_arrives}
 use Rattle.machine_step.specs.Causes.{IsCause, IsUnbuilt}
-use Rattle.mirror_update.proofs.LawLemmas.{some_updates}
+use Rattle.mirror_update.proofs.TotalLemmas.{some_update}
 use Rattle.machine_step.specs.Step.{CanBeRead, Given, Step, StepWith, case_of, read_for, refused}
 use Rattle.machine_step.proofs.CaseLemmas as cases
 use Rattle.machine_step.proofs.CaseLemmas.{RepoLaw, RepoReads}
@@ -30,10 +30,10 @@ repo_reads = repos.repo_reads (add_law (arrives_fit listed_packages)) remove_law
 
 module _ (given : Given) (large : Option (List ℕ)) (state : StateView) (c : PlainCommand) where
   pub total : (outcome : Outcome StateView Refusal) × Step given large state c outcome
-  total = total_step some_arrives some_updates given large state c
+  total = total_step some_arrives some_update given large state c
 
   pub refuses : (refusal : Refusal) → Refuses large (case_of given.now state c) (Some refusal) → Step given large state c (refused state refusal)
-  refuses = refuses_step some_arrives some_updates given large state c
+  refuses = refuses_step some_arrives some_update given large state c
 
   module _ (outcome : Outcome StateView Refusal) where
     pub valid : Valid state → Step given large state c outcome → Valid outcome.state

@@ -73,7 +73,11 @@ fn fetched_by(
 }
 
 /// All of what is known and of the list.
-fn joined(alloc: Global, known: &PackageList, list: &PackageList) -> Result<PackageList, ChangeFault>
+fn joined(
+    alloc: Global,
+    known: &PackageList,
+    list: &PackageList,
+) -> Result<PackageList, ChangeFault>
     ensures same { IfOk result (λ all. all ≡ union known.now list.now) }
     ensures fits { length (union known.now list.now) ≤ MOST_KNOWN → IfErr result IsMemory }
 {

@@ -1,16 +1,16 @@
 use Rattle.machine_step.proofs.LawLemmas.{valid_step, total_step, refuses_step, kept_step, says_refusal, says_step, plain_step, knows_step, cause_step, unbuilt_step}
 use Rattle.machine_step.proofs.CaseLemmas.{readable}
-use Rattle.mirror_update.proofs.LawLemmas.{some_updates}
+use Rattle.mirror_update.proofs.TotalLemmas.{some_update}
 use Rattle.machine_step.proofs.laws.laws_of_steps.Goals as goal
 
 pub returns-clause-valid : goal.returns-clause-valid
 returns-clause-valid c = valid_step c.repo_cases_are_lawful.ensures.lawful
 
 pub returns-clause-total : goal.returns-clause-total
-returns-clause-total c = total_step c.arrivals_fit.ensures.total some_updates
+returns-clause-total c = total_step c.arrivals_fit.ensures.total some_update
 
 pub returns-clause-refuses : goal.returns-clause-refuses
-returns-clause-refuses c = refuses_step c.arrivals_fit.ensures.total some_updates
+returns-clause-refuses c = refuses_step c.arrivals_fit.ensures.total some_update
 
 pub returns-clause-kept : goal.returns-clause-kept
 returns-clause-kept c = kept_step

@@ -57,7 +57,8 @@ returns-in-Mirror-clause-ok g c = λ now inbox large v may.
     let r = is_mirror (plain c.args.command.now) (sym c.family_of.ensures ∙ c.in-Mirror.is) in
     let is = case_of_mirror now s (plain c.args.command.now) r.0 r.1 in
     let own = subst (λ (k : Case). mirrors.MayArrive inbox s (reading k) c.args.arrived.now) (sym is) (arrives_mirror (giving inbox now) large s (read_for now s (plain c.args.command.now)) c.args.arrived.now may) in
-    subst (λ (k : Case). IfOk c.change-in-Mirror.result (λ change. Told (g.M.Patterns.refusals c.args.patterns.now) (g.M.Patterns.refusals c.change-in-Mirror.new.patterns) (g.M.Patterns.refused c.change-in-Mirror.new.patterns) (λ large. ComesTo large k c.args.arrived.now (came s change)))) is (c.change-in-Mirror.ensures.ok r.0 inbox r.1 v own)
+    ok_told _ _ _ s _ c.args.arrived.now c.change-in-Mirror.result
+    (subst (λ (k : Case). IfOk c.change-in-Mirror.result (λ change. ComesTo None k c.args.arrived.now (came s change))) is (c.change-in-Mirror.ensures.ok r.0 inbox r.1 v own))
 
 pub returns-in-Mirror-clause-fault : goal.returns-in-Mirror-clause-fault
 returns-in-Mirror-clause-fault g c = λ now inbox large v may.
@@ -66,13 +67,6 @@ returns-in-Mirror-clause-fault g c = λ now inbox large v may.
     let is = case_of_mirror now s (plain c.args.command.now) r.0 r.1 in
     let own = subst (λ (k : Case). mirrors.MayArrive inbox s (reading k) c.args.arrived.now) (sym is) (arrives_mirror (giving inbox now) large s (read_for now s (plain c.args.command.now)) c.args.arrived.now may) in
     subst (λ (k : Case). IfErr c.change-in-Mirror.result (FaultIs (λ refusal. Told (g.M.Patterns.refusals c.args.patterns.now) (g.M.Patterns.refusals c.change-in-Mirror.new.patterns) (g.M.Patterns.refused c.change-in-Mirror.new.patterns) (λ large. IsRefusedFor large k c.args.arrived.now refusal)))) is (c.change-in-Mirror.ensures.fault r.0 inbox r.1 v own)
-
-pub returns-in-Mirror-clause-new : goal.returns-in-Mirror-clause-new
-returns-in-Mirror-clause-new g c = λ now inbox large v may.
-    let s = c.args.state.now in
-    let r = is_mirror (plain c.args.command.now) (sym c.family_of.ensures ∙ c.in-Mirror.is) in
-    let is = case_of_mirror now s (plain c.args.command.now) r.0 r.1 in
-    c.change-in-Mirror.ensures.new r.0 inbox r.1 v (subst (λ (k : Case). mirrors.MayArrive inbox s (reading k) c.args.arrived.now) (sym is) (arrives_mirror (giving inbox now) large s (read_for now s (plain c.args.command.now)) c.args.arrived.now may))
 
 pub returns-in-Other-clause-ok : goal.returns-in-Other-clause-ok
 returns-in-Other-clause-ok g c = λ now inbox large v may.
