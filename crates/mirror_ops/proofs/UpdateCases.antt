@@ -25,7 +25,7 @@ use Rattle.step_model.specs.Lawful.{IfChanges, IfRefuses, IsFrom, IsLawful}
 use Rattle.step_model.proofs.OwnLemmas.{OwnOr}
 use Rattle.step_model.proofs.RefusalLemmas.{passes, reads_on}
 use Rattle.mirror_ops.specs.Cases.{ArrivesFor, MayArrive, MirrorArrives, bad_mirror, taken_in, update_case}
-use Rattle.mirror_ops.specs.Updates.{Finds, fetched_of}
+use Rattle.mirror_ops.specs.Updates.{Has, fetched_of}
 use Rattle.mirror_ops.proofs.LawLemmas.{line_some, own_mirror}
 
 -- ---- what it comes to
@@ -47,11 +47,11 @@ abbrev pub Fit : Type 0
 Fit = (files : Files) (state : StateView) (mirror : MirrorView) (fetched : Fetched) → Valid state → mirror_of mirror.name state.mirrors ≡ Some mirror → Arrives files state.known mirror (Ok fetched) → FitsIn state mirror.name fetched
 
 module _ (fit : Fit) (inbox : Option Files) (state : StateView) where
-  files_fit : (o : Option Files) (mirror : MirrorView) (fetched : Fetched) → Valid state → Finds state mirror.name mirror → FilesArrive o state mirror (Ok fetched) → FitsIn state mirror.name fetched
+  files_fit : (o : Option Files) (mirror : MirrorView) (fetched : Fetched) → Valid state → Has state mirror → FilesArrive o state mirror (Ok fetched) → FitsIn state mirror.name fetched
   files_fit (Some files) mirror fetched v found h = fit files state mirror fetched v found h
   files_fit None mirror fetched v found h = h
 
-  pick_fits : (pick : Option Refusal) (mirror : MirrorView) (fetched : Fetched) → Valid state → Finds state mirror.name mirror → PickArrives pick inbox state mirror (Ok fetched) → FitsIn state mirror.name fetched
+  pick_fits : (pick : Option Refusal) (mirror : MirrorView) (fetched : Fetched) → Valid state → Has state mirror → PickArrives pick inbox state mirror (Ok fetched) → FitsIn state mirror.name fetched
   pick_fits (Some refusal) mirror fetched v found h = cc
   pick_fits None mirror fetched v found h = files_fit inbox mirror fetched v found h
 

@@ -27,7 +27,7 @@ use Rattle.mirror_update.specs.Fits.{FitsIn, updated, with_fetched}
 use Rattle.reply_text.specs.Mirrors as replies
 use Rattle.step_model.specs.Case.{changes}
 use Rattle.mirror_ops.specs.Cases.{taken_in}
-use Rattle.mirror_ops.specs.Updates.{Finds, fetched_in, has_fetched, same_members}
+use Rattle.mirror_ops.specs.Updates.{Has, fetched_in, has_fetched, same_members}
 
 -- ---- lists of equal members
 
@@ -96,7 +96,7 @@ abbrev updated_in : Option MirrorView → Option Fetched
 updated_in None = None
 updated_in (Some mirror) = mirror.updated
 
-module _ (state : StateView) (name : List ℕ) (mirror : MirrorView) (fetched : Fetched) (found : Finds state name mirror) where
+module _ (state : StateView) (name : List ℕ) (mirror : MirrorView) (fetched : Fetched) (found : mirror_of name state.mirrors ≡ Some mirror) where
   now_found : mirror_of name (updated state name fetched).mirrors ≡ Some (with_fetched fetched mirror)
   now_found = named_changed mirror_name name (with_fetched fetched) (λ x. refl) state.mirrors ∙ ap (option_map (with_fetched fetched)) found
 
@@ -144,7 +144,7 @@ updated_is state new mirror made fetched known m h k = (λ i. record (h i) { kno
 
 module _ (state : StateView) (mirror : MirrorView) (fetched : Fetched) (reply : List ℕ) (count : ℕ) where
   -- a mirror that has fetched just this
-  pub taken_none : Finds state mirror.name mirror → Valid state → FitsIn state mirror.name fetched → has_fetched mirror.updated fetched ≡ true → reply ≡ replies.mirror_updated mirror.name count → count ≡ length fetched.list
+  pub taken_none : Has state mirror → Valid state → FitsIn state mirror.name fetched → has_fetched mirror.updated fetched ≡ true → reply ≡ replies.mirror_updated mirror.name count → count ≡ length fetched.list
       → taken_in state mirror.name (arrivals.List fetched.list fetched.date) ≡ changes reply state
   taken_none found v f has e n =
       ap (changes (replies.mirror_updated mirror.name (length fetched.list))) (updated_same state mirror.name mirror fetched found v f has)

@@ -15,7 +15,7 @@ use Rattle.machine_state.specs.declared.change.ChangeFault.{ChangeFault}
 use Rattle.machine_state.specs.Ascending.{put}
 use Rattle.machine_state.specs.Limits.{limit_number}
 use Rattle.machine_state.specs.Named.{dropped, renamed}
-use Rattle.machine_state.specs.State.{mirror_cmp, mirror_name, mirror_of}
+use Rattle.machine_state.specs.State.{Valid, mirror_cmp, mirror_name, mirror_of}
 use Rattle.machine_state.specs.Values.{MirrorView, StateView}
 use Rattle.reply_text.specs.Mirrors as replies
 use Rattle.mirror_update.specs.Answers.{IsArrival}
@@ -137,17 +137,18 @@ MayArrive inbox state reading arrived = Unit {0}
 abbrev pub ArrivesFor : Option Files → StateView → Case → Arrived → Type 0
 ArrivesFor inbox state case arrived = MayArrive inbox state (reading case) arrived
 
--- the call tells what the case comes to, where this may have arrived for it
+-- in a valid state the call tells what the case comes to, where this may have arrived for it
 abbrev pub ChangesWith : Option Files → StateView → Case → Arrived → Result Change ChangeFault → Type 0
-ChangesWith inbox state case arrived result = ArrivesFor inbox state case arrived → IfOk result (ChangesTo state case arrived)
+ChangesWith inbox state case arrived result = Valid state → ArrivesFor inbox state case arrived → IfOk result (ChangesTo state case arrived)
 
 -- the call refuses it so, or memory was wanting
 abbrev pub RefusesWith : Option Files → StateView → Case → Arrived → Result Change ChangeFault → Type 0
-RefusesWith inbox state case arrived result = ArrivesFor inbox state case arrived → IfErr result (FaultIs (IsRefusedFor None case arrived))
+RefusesWith inbox state case arrived result = Valid state → ArrivesFor inbox state case arrived → IfErr result (FaultIs (IsRefusedFor None case arrived))
 
--- the same of a call to which a pattern builder was handed in
-abbrev pub RefusedWith : {B : Type 0} → Builder B → B → B → Option Files → StateView → Case → Arrived → Result Change ChangeFault → Type 0
-RefusedWith builder old new inbox state case arrived result = ArrivesFor inbox state case arrived → IfErr result (RefusedBy builder old new case arrived)
+-- the same of a command, in a call to which a pattern builder was handed in
+abbrev pub RefusedWith : {B : Type 0} → Builder B → B → B → Option Files → StateView → MirrorCommand → Arrived → Result Change ChangeFault → Type 0
+RefusedWith builder old new inbox state c arrived result =
+    Valid state → ArrivesFor inbox state (mirror_case state c) arrived → IfErr result (RefusedBy builder old new (mirror_case state c) arrived)
 
 -- a command of mirrors reads nothing, or an archive, and has no conditions of its own then
 abbrev pub ReadsArchive : Case → Reading → Type 0

@@ -142,8 +142,8 @@ pub fn change<M: Patterns>(
     arrived: &Arrived,
     patterns: &mut M,
 ) -> Result<Change, ChangeFault>
-    ensures ok { (c : MirrorCommand) (inbox : Option Files) → plain command.now ≡ of_mirror c → Valid state.now → ChangesWith inbox state.now (mirror_case state.now c) arrived.now result }
-    ensures fault { (c : MirrorCommand) (inbox : Option Files) → plain command.now ≡ of_mirror c → Valid state.now → RefusedWith M.Patterns patterns.old patterns.new inbox state.now (mirror_case state.now c) arrived.now result }
+    ensures ok { (c : MirrorCommand) (inbox : Option Files) → plain command.now ≡ of_mirror c → ChangesWith inbox state.now (mirror_case state.now c) arrived.now result }
+    ensures fault { (c : MirrorCommand) (inbox : Option Files) → plain command.now ≡ of_mirror c → RefusedWith M.Patterns patterns.old patterns.new inbox state.now c arrived.now result }
     // A state that is told is another one.
     ensures new { Valid state.now → IfOk result (λ change. IsNew state.now change.state) }
     ensures never_falls { M.refusals patterns.old ≤ M.refusals patterns.new }

@@ -3,14 +3,13 @@ ghost use Rattle.std.specs.Prelude.{◌≡◌, ◌≤◌, Option, IfOk, IfErr, l
 ghost use Rattle.ap_host.specs.Disk.{Files};
 ghost use Rattle.command_value.specs.Plain.{MirrorCommand, plain, of_mirror};
 ghost use Rattle.machine_state.specs.State.{Valid};
-ghost use Rattle.machine_state.specs.Values.{MirrorView};
 ghost use Rattle.machine_state.specs.declared.fetched.Fetched.{Fetched};
 ghost use Rattle.package_list.specs.Lists.{union};
 ghost use Rattle.package_list.specs.declared.list.TheConstants.{MOST_KNOWN};
 ghost use Rattle.mirror_update.specs.Fits.{FitsIn, updated, with_fetched};
 ghost use Rattle.step_model.specs.Answers.{IsMemory, IsNew};
 ghost use Rattle.mirror_ops.specs.Cases.{ChangesWith, IsUpdate, RefusesWith, mirror_case, update_case};
-ghost use Rattle.mirror_ops.specs.Updates.{Finds, TakesIn, fetched_in, fetched_of, has_fetched as has_fetched_of, same_members as same_members_of};
+ghost use Rattle.mirror_ops.specs.Updates.{Has, IsOneWith, TakesIn, fetched_in, fetched_of, has_fetched as has_fetched_of, same_members as same_members_of};
 
 use crate::early::named_mirror;
 use command_value::Command;
@@ -88,7 +87,7 @@ fn joined(
 
 /// The state with this mirror in the place of that of its name.
 fn with_mirror(alloc: Global, state: &State, made: Mirror) -> Result<State, AllocError>
-    ensures { (mirror : MirrorView) (fetched : Fetched) → Valid state.now → Finds state.now made.name mirror → made ≡ with_fetched fetched mirror → IfOk result (λ new. new ≡ fetched_in state.now made.name fetched) }
+    ensures { (fetched : Fetched) → Valid state.now → IsOneWith state.now fetched made → IfOk result (λ new. new ≡ fetched_in state.now made.name fetched) }
 {
     let mut state = state.copy(alloc)?;
     set_named(&mut state.mirrors, made);
@@ -103,7 +102,7 @@ fn state_with(
     list: &PackageList,
     date: &Text,
 ) -> Result<State, ChangeFault>
-    ensures same { Valid state.now → Finds state.now mirror.now.name mirror.now → IfOk result (λ made. made ≡ updated state.now mirror.now.name (fetched_of list.now date.now)) }
+    ensures same { Valid state.now → Has state.now mirror.now → IfOk result (λ made. made ≡ updated state.now mirror.now.name (fetched_of list.now date.now)) }
     ensures fits { length (union state.now.known list.now) ≤ MOST_KNOWN → IfErr result IsMemory }
 {
     let known = joined(alloc, &state.known, list)?;
@@ -121,9 +120,9 @@ fn take_in(
     list: &PackageList,
     date: &Text,
 ) -> Result<Change, ChangeFault>
-    ensures taken { let fetched = fetched_of list.now date.now in Valid state.now → Finds state.now mirror.now.name mirror.now → FitsIn state.now mirror.now.name fetched → IfOk result (TakesIn state.now mirror.now.name fetched) }
+    ensures taken { let fetched = fetched_of list.now date.now in Valid state.now → Has state.now mirror.now → FitsIn state.now mirror.now.name fetched → TakesIn state.now mirror.now fetched result }
     ensures fits { FitsIn state.now mirror.now.name (fetched_of list.now date.now) → IfErr result IsMemory }
-    ensures new { Valid state.now → Finds state.now mirror.now.name mirror.now → IfOk result (λ change. IsNew state.now change.state) }
+    ensures new { Valid state.now → Has state.now mirror.now → IfOk result (λ change. IsNew state.now change.state) }
 {
     let reply = mirror_updated(alloc, &mirror.name, list.len() as u64)?;
     if has_fetched(mirror, list, date) {
@@ -142,8 +141,8 @@ fn update_named(
     name: &Text,
     arrived: &Arrived,
 ) -> Result<Change, ChangeFault>
-    ensures ok { (inbox : Option Files) → Valid state.now → ChangesWith inbox state.now (update_case state.now name.now) arrived.now result }
-    ensures fault { (inbox : Option Files) → Valid state.now → RefusesWith inbox state.now (update_case state.now name.now) arrived.now result }
+    ensures ok { (inbox : Option Files) → ChangesWith inbox state.now (update_case state.now name.now) arrived.now result }
+    ensures fault { (inbox : Option Files) → RefusesWith inbox state.now (update_case state.now name.now) arrived.now result }
     ensures new { Valid state.now → IfOk result (λ change. IsNew state.now change.state) }
 {
     archives_fit();
@@ -164,8 +163,8 @@ pub fn update<M: Patterns>(
     arrived: &Arrived,
     _patterns: &mut M,
 ) -> Result<Change, ChangeFault>
-    ensures ok { (c : MirrorCommand) (inbox : Option Files) → plain command.now ≡ of_mirror c → IsUpdate c → Valid state.now → ChangesWith inbox state.now (mirror_case state.now c) arrived.now result }
-    ensures fault { (c : MirrorCommand) (inbox : Option Files) → plain command.now ≡ of_mirror c → IsUpdate c → Valid state.now → RefusesWith inbox state.now (mirror_case state.now c) arrived.now result }
+    ensures ok { (c : MirrorCommand) (inbox : Option Files) → plain command.now ≡ of_mirror c → IsUpdate c → ChangesWith inbox state.now (mirror_case state.now c) arrived.now result }
+    ensures fault { (c : MirrorCommand) (inbox : Option Files) → plain command.now ≡ of_mirror c → IsUpdate c → RefusesWith inbox state.now (mirror_case state.now c) arrived.now result }
     // A state that is told is another one.
     ensures new { Valid state.now → IfOk result (λ change. IsNew state.now change.state) }
     ensures untouched { _patterns.new ≡ _patterns.old }
