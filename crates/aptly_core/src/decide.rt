@@ -104,9 +104,7 @@ fn fetch<H: Host, I: Inbox, M: Patterns>(
     ensures inbox_cause { CauseOf InboxFault (I.faults inbox.old) (I.faults inbox.new) result }
 {
     match state.mirror(&name) {
-        Some(mirror) => arrived_of(update(
-            alloc, host, stage, inbox, state, mirror, patterns,
-        )),
+        Some(mirror) => arrived_of(update(alloc, host, stage, inbox, state, mirror, patterns)),
         None => Ok(Arrived::Refused(Refusal::Unknown(Kind::Mirror, name))),
     }
 }

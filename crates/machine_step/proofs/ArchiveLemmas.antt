@@ -89,6 +89,9 @@ archive_own (BadPattern query test) w = w
 archive_own (PatternTooLarge query test) w = w
 archive_own refusal w = tt
 
+abbrev error_of : Refusal → Result Fetched Refusal
+error_of refusal = Err refusal
+
 -- why archives are refused
 abbrev pub RefusesArchive : Type 0
 RefusesArchive = (files : Files) (known : List Card) (mirror : MirrorView) (refusal : Refusal) → Arrives files known mirror (Err refusal) → IsArchiveRefusal refusal
@@ -102,7 +105,7 @@ module _ (law : RefusesArchive) (large : Option (List ℕ)) (inbox : Option File
   pick_own None legal comes = inl (files_own inbox comes)
   pick_own (Some r) legal comes = inr (subst (λ (x : Refusal). IsPatternRefusal large (conditions_of mirror) x) (same comes) legal)
     where
-      same : Err refusal ≡ Err r → r ≡ refusal
+      same : error_of refusal ≡ error_of r → r ≡ refusal
       same e = cc
 
 pub mirror_own : RefusesArchive → (large : Option (List ℕ)) (inbox : Option Files) (state : StateView) (name : List ℕ) (o : Option MirrorView) (refusal : Refusal) → MirrorArrives large inbox state name o (arrivals.Refused refusal)
@@ -147,16 +150,19 @@ read_passes case name = by_first (or_else case.early case.late)
 pub refused_archive : (given : Given) (large : Option (List ℕ)) (state : StateView) (c : PlainCommand) (name : List ℕ) (refusal : Refusal) → readings.Mirror name ≡ read_for given.now state c → CanBeRead (case_of given.now state c) (readings.Mirror name)
     → MayArrive given large state (readings.Mirror name) (arrivals.Refused refusal) → Step given large state c (refused state refusal)
 refused_archive given large state c name refusal is can may =
-    let case = case_of given.now state c in
-    (arrivals.Refused refusal, subst (λ (r : Reading). MayArrive given large state r (arrivals.Refused refusal)) is may, record {
-      refusal = None;
-      refuses = record {
-        pick = None;
-        legal = λ early. subst (λ (l : List Condition). ArePatterns l) (sym can.0) none_asked;
-        first = sym (read_passes case name (sym is));
-      };
-      comes = ap (steps.outcome_of refusal_line state) (sym (can.1 refusal));
-    })
+    let case = case_of given.now state c in (
+      arrivals.Refused refusal,
+      subst (λ (r : Reading). MayArrive given large state r (arrivals.Refused refusal)) is may,
+      record {
+        refusal = None;
+        refuses = record {
+          pick = None;
+          legal = λ early. subst (λ (l : List Condition). ArePatterns l) (sym can.0) none_asked;
+          first = sym (read_passes case name (sym is));
+        };
+        comes = ap (steps.outcome_of refusal_line state) (sym (can.1 refusal));
+      },
+    )
   where
     none_asked : ArePatterns []
     none_asked k d lt = absurd (omega (arith, lt))

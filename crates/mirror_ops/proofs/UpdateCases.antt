@@ -1,5 +1,5 @@
 -- The case of an update of a mirror: what is read for it, what may arrive, and what it keeps to.
-use Rattle.std.proofs.Common.{◌≡◌, ◌≢◌, ◌⊎◌, ℕ, List, [], length, Option, Some, None, Result, Ok, Err, inl, inr, refl, sym, ap, subst, ◌∙◌}
+use Rattle.std.proofs.Common.{◌≡◌, ◌≢◌, ◌⊎◌, ℕ, List, [], length, Option, Some, None, Ok, inl, inr, refl, sym, ap, subst, ◌∙◌}
 use Rattle.std.specs.List.{Contains}
 use Rattle.std.proofs.lemmas.List.Elements.{All-contains_itself}
 use Rattle.ap_host.specs.Disk.{Files}
@@ -7,14 +7,12 @@ use Rattle.package_core.specs.Card.{Card}
 use Rattle.machine_state.specs.declared.arrived.Arrived.{Arrived}
 use Rattle.machine_state.specs.declared.arrived.Arrived.TheVariants as arrivals
 use Rattle.machine_state.specs.declared.fetched.Fetched.{Fetched}
-use Rattle.machine_state.specs.declared.limit.Kind.TheVariants as kinds
 use Rattle.machine_state.specs.declared.refusal.Refusal.{Refusal}
-use Rattle.machine_state.specs.declared.refusal.Refusal.TheVariants.{Unknown}
 use Rattle.machine_state.specs.State.{Valid, mirror_name, mirror_of}
 use Rattle.machine_state.specs.Values.{MirrorView, StateView}
 use Rattle.machine_state.proofs.ListLemmas.{union_all}
 use Rattle.machine_state.proofs.NamedLemmas.{named_has}
-use Rattle.mirror_update.specs.Answers.{FilesArrive, IsArrival, PickArrives, Updates}
+use Rattle.mirror_update.specs.Answers.{FilesArrive, PickArrives}
 use Rattle.mirror_update.specs.Arrival.{Arrives}
 use Rattle.mirror_update.specs.Fits.{FitsIn}
 use Rattle.reply_text.specs.Mirrors as replies
@@ -26,8 +24,14 @@ use Rattle.step_model.specs.Answers.{ComesTo, IsWanted}
 use Rattle.step_model.specs.Lawful.{IfChanges, IfRefuses, IsFrom, IsLawful}
 use Rattle.step_model.proofs.OwnLemmas.{OwnOr}
 use Rattle.step_model.proofs.RefusalLemmas.{passes, reads_on}
+<<<<<<< HEAD
 use Rattle.mirror_ops.specs.Cases.{ArchiveArrives, ArrivesFor, MayArrive, MirrorArrives, bad_mirror, taken_in, update_case}
 use Rattle.mirror_ops.proofs.LawLemmas.{line_some, own_called}
+=======
+use Rattle.mirror_ops.specs.Cases.{ArrivesFor, MayArrive, MirrorArrives, bad_mirror, taken_in, update_case}
+use Rattle.mirror_ops.specs.Updates.{Has, fetched_of}
+use Rattle.mirror_ops.proofs.LawLemmas.{line_some, own_mirror}
+>>>>>>> 79625578f1217218df7b441ff9f59f2e2feacafb
 
 -- ---- what it comes to
 
@@ -48,27 +52,27 @@ abbrev pub Fit : Type 0
 Fit = (files : Files) (state : StateView) (mirror : MirrorView) (fetched : Fetched) → Valid state → mirror_of mirror.name state.mirrors ≡ Some mirror → Arrives files state.known mirror (Ok fetched) → FitsIn state mirror.name fetched
 
 module _ (fit : Fit) (inbox : Option Files) (state : StateView) where
-  files_fit : (o : Option Files) (mirror : MirrorView) (fetched : Fetched) → Valid state → mirror_of mirror.name state.mirrors ≡ Some mirror → FilesArrive o state mirror (Ok fetched) → FitsIn state mirror.name fetched
+  files_fit : (o : Option Files) (mirror : MirrorView) (fetched : Fetched) → Valid state → Has state mirror → FilesArrive o state mirror (Ok fetched) → FitsIn state mirror.name fetched
   files_fit (Some files) mirror fetched v found h = fit files state mirror fetched v found h
   files_fit None mirror fetched v found h = h
 
-  pick_fits : (pick : Option Refusal) (mirror : MirrorView) (fetched : Fetched) → Valid state → mirror_of mirror.name state.mirrors ≡ Some mirror → PickArrives pick inbox state mirror (Ok fetched) → FitsIn state mirror.name fetched
+  pick_fits : (pick : Option Refusal) (mirror : MirrorView) (fetched : Fetched) → Valid state → Has state mirror → PickArrives pick inbox state mirror (Ok fetched) → FitsIn state mirror.name fetched
   pick_fits (Some refusal) mirror fetched v found h = cc
   pick_fits None mirror fetched v found h = files_fit inbox mirror fetched v found h
 
   -- a list that arrives for a mirror fits
-  mirror_fits : (large : Option (List ℕ)) (name : List ℕ) (o : Option MirrorView) (list : List Card) (date : List ℕ) → Valid state → mirror_of name state.mirrors ≡ o → MirrorArrives large inbox state name o (arrivals.List list date) → FitsIn state name (record { date = date; list = list })
+  mirror_fits : (large : Option (List ℕ)) (name : List ℕ) (o : Option MirrorView) (list : List Card) (date : List ℕ) → Valid state → mirror_of name state.mirrors ≡ o → MirrorArrives large inbox state name o (arrivals.List list date) → FitsIn state name (fetched_of list date)
   mirror_fits large name (Some mirror) list date v found h =
       let same : mirror.name ≡ name = named_has mirror_name name state.mirrors mirror found in
-      subst (λ (n : List ℕ). FitsIn state n (record { date = date; list = list })) same
-      (pick_fits h.pick mirror (record { date = date; list = list }) v (ap (λ (n : List ℕ). mirror_of n state.mirrors) same ∙ found) h.comes)
+      subst (λ (n : List ℕ). FitsIn state n (fetched_of list date)) same
+      (pick_fits h.pick mirror (fetched_of list date) v (ap (λ (n : List ℕ). mirror_of n state.mirrors) same ∙ found) h.comes)
   mirror_fits large name None list date v found h = cc
 
-  pub list_fits : (name : List ℕ) (list : List Card) (date : List ℕ) → Valid state → MayArrive inbox state (readings.Mirror name) (arrivals.List list date) → FitsIn state name (record { date = date; list = list })
+  pub list_fits : (name : List ℕ) (list : List Card) (date : List ℕ) → Valid state → MayArrive inbox state (readings.Mirror name) (arrivals.List list date) → FitsIn state name (fetched_of list date)
   list_fits name list date v h = mirror_fits h.0 name (mirror_of name state.mirrors) list date v refl h.1
 
   -- what arrives for an update that goes on fits
-  pub arrived_fits : (name : List ℕ) (arrived : Arrived) (list : List Card) (date : List ℕ) → Valid state → bad_mirror state name ≡ None → arrived ≡ arrivals.List list date → ArrivesFor inbox state (update_case state name) arrived → FitsIn state name (record { date = date; list = list })
+  pub arrived_fits : (name : List ℕ) (arrived : Arrived) (list : List Card) (date : List ℕ) → Valid state → bad_mirror state name ≡ None → arrived ≡ arrivals.List list date → ArrivesFor inbox state (update_case state name) arrived → FitsIn state name (fetched_of list date)
   arrived_fits name arrived list date v good is h =
       list_fits name list date v (subst (MayArrive inbox state (readings.Mirror name)) is (subst (λ (r : Reading). MayArrive inbox state r arrived) (reads_archive state name good) h))
 

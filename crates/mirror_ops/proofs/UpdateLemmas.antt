@@ -1,23 +1,21 @@
 -- What an update of a mirror comes to, by how it goes.
-use Rattle.std.proofs.Common.{◌≡◌, ◌≢◌, ℕ, suc, ◌+◌, ◌<◌, Bool, true, false, ◌&&◌, List, [], ◌∷◌, length, map, drop, get_or, Option, Some, None, Ok, Err, All, true≢false, refl, sym, ap, subst, ◌∙◌, Ordering, Less, Equal, Greater}
+use Rattle.std.proofs.Common.{◌≡◌, ◌≢◌, ℕ, suc, ◌+◌, ◌<◌, Bool, true, false, ◌&&◌, List, [], ◌∷◌, length, map, drop, get_or, Option, Some, None, All, true≢false, refl, sym, ap, subst, ◌∙◌, Ordering, Less, Equal, Greater}
 use Rattle.std.specs.Ordering.{is_eq, is_ne}
 use Rattle.std.specs.Str.{bytes_eq}
 use Rattle.std.specs.Option.{option_map}
 use Rattle.std.specs.List.{AllByRecursion}
 use Rattle.std.proofs.lemmas.Cmp.{tied_itself}
 use Rattle.std.proofs.lemmas.Slice.Eq.{bytes_eq-Decides}
-use Rattle.ap_host.specs.Disk.{Files}
 use Rattle.package_core.specs.Card.{Card}
 use Rattle.package_core.specs.Order.{package_cmp}
 use Rattle.package_core.proofs.OrderLaws.{package_total}
-use Rattle.package_list.specs.Sorted.{IsAscending, equal_of}
+use Rattle.package_list.specs.Sorted.{IsAscending}
 use Rattle.package_list.specs.Lists.{has_member, union}
 use Rattle.package_list.proofs.SortedLemmas.{drop_at_member}
 use Rattle.machine_state.specs.declared.arrived.Arrived.TheVariants as arrivals
 use Rattle.machine_state.specs.declared.fetched.Fetched.{Fetched}
 use Rattle.machine_state.specs.Lists.{IsKnown, IsNamedList}
 use Rattle.machine_state.specs.Mirrors.{MirrorLists}
-use Rattle.machine_state.specs.Named.{changed}
 use Rattle.machine_state.specs.State.{Valid, mirror_name, mirror_of}
 use Rattle.machine_state.specs.Values.{MirrorView, StateView}
 use Rattle.machine_state.proofs.NamedLemmas.{changed_same, named_changed}
@@ -29,7 +27,7 @@ use Rattle.mirror_update.specs.Fits.{FitsIn, updated, with_fetched}
 use Rattle.reply_text.specs.Mirrors as replies
 use Rattle.step_model.specs.Case.{changes}
 use Rattle.mirror_ops.specs.Cases.{taken_in}
-use Rattle.mirror_ops.specs.Updates.{has_fetched, same_members}
+use Rattle.mirror_ops.specs.Updates.{Has, fetched_in, has_fetched, same_members}
 
 -- ---- lists of equal members
 
@@ -138,7 +136,7 @@ module _ (state : StateView) (name : List ℕ) (mirror : MirrorView) (fetched : 
       itself = ap (λ (b : Bool). b && same_members fetched.list fetched.list) ((bytes_eq-Decides fetched.date fetched.date).1 refl) ∙ members_itself fetched.list
 
 -- the state with the new mirror in its place, and more known
-pub updated_is : (state new : StateView) (mirror made : MirrorView) (fetched : Fetched) (known : List Card) → made ≡ with_fetched fetched mirror → new ≡ record state { mirrors = changed mirror_name made.name (with_fetched fetched) state.mirrors }
+pub updated_is : (state new : StateView) (mirror made : MirrorView) (fetched : Fetched) (known : List Card) → made ≡ with_fetched fetched mirror → new ≡ fetched_in state made.name fetched
     → known ≡ union state.known fetched.list → record new { known = known } ≡ updated state mirror.name fetched
 updated_is state new mirror made fetched known m h k = (λ i. record (h i) { known = k i }) ∙ ap (λ (x : MirrorView). updated state x.name fetched) m
 
@@ -146,7 +144,7 @@ updated_is state new mirror made fetched known m h k = (λ i. record (h i) { kno
 
 module _ (state : StateView) (mirror : MirrorView) (fetched : Fetched) (reply : List ℕ) (count : ℕ) where
   -- a mirror that has fetched just this
-  pub taken_none : mirror_of mirror.name state.mirrors ≡ Some mirror → Valid state → FitsIn state mirror.name fetched → has_fetched mirror.updated fetched ≡ true → reply ≡ replies.mirror_updated mirror.name count → count ≡ length fetched.list
+  pub taken_none : Has state mirror → Valid state → FitsIn state mirror.name fetched → has_fetched mirror.updated fetched ≡ true → reply ≡ replies.mirror_updated mirror.name count → count ≡ length fetched.list
       → taken_in state mirror.name (arrivals.List fetched.list fetched.date) ≡ changes reply state
   taken_none found v f has e n =
       ap (changes (replies.mirror_updated mirror.name (length fetched.list))) (updated_same state mirror.name mirror fetched found v f has)

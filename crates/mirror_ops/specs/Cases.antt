@@ -1,7 +1,8 @@
 -- The commands of mirrors: what each is in a state.
-use Rattle.std.specs.Prelude.{◌≡◌, ℕ, Bool, false, List, [], length, Option, Some, None, nat_le, unwrap_or, if◌then◌else◌}
+use Rattle.std.specs.Prelude.{◌≡◌, ℕ, Bool, false, List, [], length, Option, Some, None, Result, IfOk, IfErr, nat_le, unwrap_or, if◌then◌else◌}
 use Rattle.std.specs.Option.{is_some}
 use Rattle.ap_host.specs.Disk.{Files}
+use Rattle.query_eval.specs.declared.patterns.Patterns.{Ghosts as Builder}
 use Rattle.command_value.specs.Plain.{MirrorCommand, mirror_create, mirror_update, mirror_list, mirror_show, mirror_rename, mirror_drop}
 use Rattle.machine_state.specs.declared.limit.Kind.TheVariants as kinds
 use Rattle.machine_state.specs.declared.limit.Limit.TheVariants.{Mirrors}
@@ -9,10 +10,12 @@ use Rattle.machine_state.specs.declared.refusal.Refusal.{Refusal}
 use Rattle.machine_state.specs.declared.refusal.Refusal.TheVariants.{Exists, Unknown, Limit, NotBuilt}
 use Rattle.machine_state.specs.declared.arrived.Arrived.{Arrived}
 use Rattle.machine_state.specs.declared.arrived.Arrived.TheVariants as arrivals
+use Rattle.machine_state.specs.declared.change.Change.{Change}
+use Rattle.machine_state.specs.declared.change.ChangeFault.{ChangeFault}
 use Rattle.machine_state.specs.Ascending.{put}
 use Rattle.machine_state.specs.Limits.{limit_number}
 use Rattle.machine_state.specs.Named.{dropped, renamed}
-use Rattle.machine_state.specs.State.{mirror_cmp, mirror_name, mirror_of}
+use Rattle.machine_state.specs.State.{Valid, mirror_cmp, mirror_name, mirror_of}
 use Rattle.machine_state.specs.Values.{MirrorView, StateView}
 use Rattle.mirror_lists.specs.Mirrors.{unknown_mirror}
 use Rattle.reply_text.specs.Mirrors as replies
@@ -20,7 +23,8 @@ use Rattle.mirror_update.specs.Answers.{IsArrival}
 use Rattle.mirror_update.specs.Fits.{updated}
 use Rattle.step_model.specs.declared.reading.Reading.{Reading}
 use Rattle.step_model.specs.declared.reading.Reading.TheVariants as readings
-use Rattle.step_model.specs.Case.{Case, Came, changes, refuses, or_else, plain_case, asking_case, unbuilt}
+use Rattle.step_model.specs.Answers.{ChangesTo, FaultIs, IsRefusedFor, RefusedBy}
+use Rattle.step_model.specs.Case.{Case, Came, changes, refuses, or_else, plain_case, asking_case}
 use Rattle.step_model.specs.Names.{bad_name}
 use Rattle.step_model.specs.Refuses.{reading}
 use Rattle.mirror_ops.specs.Settings.{asked, bad_settings, bare_mirror, filtered}
@@ -130,7 +134,24 @@ MayArrive inbox state reading arrived = Unit {0}
 abbrev pub ArrivesFor : Option Files → StateView → Case → Arrived → Type 0
 ArrivesFor inbox state case arrived = MayArrive inbox state (reading case) arrived
 
+<<<<<<< HEAD
 -- A command of mirrors reads nothing, or an archive. It has no conditions of its own then, and is refused so where the archive is.
+=======
+-- in a valid state the call tells what the case comes to, where this may have arrived for it
+abbrev pub ChangesWith : Option Files → StateView → Case → Arrived → Result Change ChangeFault → Type 0
+ChangesWith inbox state case arrived result = Valid state → ArrivesFor inbox state case arrived → IfOk result (ChangesTo state case arrived)
+
+-- the call refuses it so, or memory was wanting
+abbrev pub RefusesWith : Option Files → StateView → Case → Arrived → Result Change ChangeFault → Type 0
+RefusesWith inbox state case arrived result = Valid state → ArrivesFor inbox state case arrived → IfErr result (FaultIs (IsRefusedFor None case arrived))
+
+-- the same of a command, in a call to which a pattern builder was handed in
+abbrev pub RefusedWith : {B : Type 0} → Builder B → B → B → Option Files → StateView → MirrorCommand → Arrived → Result Change ChangeFault → Type 0
+RefusedWith builder old new inbox state c arrived result =
+    Valid state → ArrivesFor inbox state (mirror_case state c) arrived → IfErr result (RefusedBy builder old new (mirror_case state c) arrived)
+
+-- a command of mirrors reads nothing, or an archive, and has no conditions of its own then
+>>>>>>> 79625578f1217218df7b441ff9f59f2e2feacafb
 abbrev pub ReadsArchive : Case → Reading → Type 0
 ReadsArchive case readings.Nothing = Unit {0}
 ReadsArchive case (readings.Mirror name) = (case.conditions ≡ []) × ((refusal : Refusal) → case.comes (arrivals.Refused refusal) ≡ refuses refusal)

@@ -1,3 +1,3 @@
 pub mod Settings
-pub mod Updates
 pub mod Cases
+pub mod Updates

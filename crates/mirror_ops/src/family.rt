@@ -4,9 +4,9 @@ ghost use Rattle.std.specs.Option.{option_map};
 ghost use Rattle.ap_host.specs.Disk.{Files};
 ghost use Rattle.command_value.specs.Plain.{MirrorCommand, plain, of_mirror};
 ghost use Rattle.machine_state.specs.State.{Valid};
-ghost use Rattle.step_model.specs.Answers.{ChangesTo, FaultIs, IsNew, IsWanted, KeepsBy, RefusedBy, RefusesBy};
+ghost use Rattle.step_model.specs.Answers.{FaultIs, IsNew, IsWanted, KeepsBy, RefusesBy};
 ghost use Rattle.step_model.specs.Refuses.{Refuses};
-ghost use Rattle.mirror_ops.specs.Cases.{ArrivesFor, create_case, drop_case, mirror_case, rename_case, show_case, update_case};
+ghost use Rattle.mirror_ops.specs.Cases.{ChangesWith, RefusedWith, create_case, drop_case, mirror_case, rename_case, show_case, update_case};
 
 use crate::creation::create;
 use crate::early::{create_early, name_early, named_mirror, rename_early};
@@ -142,8 +142,8 @@ pub fn change<M: Patterns>(
     arrived: &Arrived,
     patterns: &mut M,
 ) -> Result<Change, ChangeFault>
-    ensures ok { (c : MirrorCommand) (inbox : Option Files) → plain command.now ≡ of_mirror c → Valid state.now → ArrivesFor inbox state.now (mirror_case state.now c) arrived.now → IfOk result (ChangesTo state.now (mirror_case state.now c) arrived.now) }
-    ensures fault { (c : MirrorCommand) (inbox : Option Files) → plain command.now ≡ of_mirror c → Valid state.now → ArrivesFor inbox state.now (mirror_case state.now c) arrived.now → IfErr result (RefusedBy M.Patterns patterns.old patterns.new (mirror_case state.now c) arrived.now) }
+    ensures ok { (c : MirrorCommand) (inbox : Option Files) → plain command.now ≡ of_mirror c → ChangesWith inbox state.now (mirror_case state.now c) arrived.now result }
+    ensures fault { (c : MirrorCommand) (inbox : Option Files) → plain command.now ≡ of_mirror c → RefusedWith M.Patterns patterns.old patterns.new inbox state.now c arrived.now result }
     // A state that is told is another one.
     ensures new { Valid state.now → IfOk result (λ change. IsNew state.now change.state) }
     ensures never_falls { M.refusals patterns.old ≤ M.refusals patterns.new }

@@ -1,19 +1,15 @@
 //! A mirror has fetched its archive.
-ghost use Rattle.std.specs.Prelude.{◌≡◌, ◌≤◌, List, ℕ, Option, IfOk, IfErr, OnOk, Some, length};
+ghost use Rattle.std.specs.Prelude.{◌≡◌, ◌≤◌, Option, IfOk, IfErr, length};
 ghost use Rattle.ap_host.specs.Disk.{Files};
 ghost use Rattle.command_value.specs.Plain.{MirrorCommand, plain, of_mirror};
-ghost use Rattle.machine_state.specs.Ascending.{IsAscending};
-ghost use Rattle.machine_state.specs.Named.{changed};
-ghost use Rattle.machine_state.specs.State.{Valid, mirror_cmp, mirror_name, mirror_of};
-ghost use Rattle.machine_state.specs.Values.{MirrorView};
-ghost use Rattle.machine_state.specs.declared.arrived.Arrived.TheVariants as arrivals;
+ghost use Rattle.machine_state.specs.State.{Valid};
 ghost use Rattle.machine_state.specs.declared.fetched.Fetched.{Fetched};
 ghost use Rattle.package_list.specs.Lists.{union};
 ghost use Rattle.package_list.specs.declared.list.TheConstants.{MOST_KNOWN};
 ghost use Rattle.mirror_update.specs.Fits.{FitsIn, updated, with_fetched};
-ghost use Rattle.step_model.specs.Answers.{came, ChangesTo, FaultIs, IsMemory, IsNew, IsRefusedFor};
-ghost use Rattle.mirror_ops.specs.Cases.{ArrivesFor, IsUpdate, mirror_case, taken_in, update_case};
-ghost use Rattle.mirror_ops.specs.Updates.{has_fetched as has_fetched_of, same_members as same_members_of};
+ghost use Rattle.step_model.specs.Answers.{IsMemory, IsNew};
+ghost use Rattle.mirror_ops.specs.Cases.{ChangesWith, IsUpdate, RefusesWith, mirror_case, update_case};
+ghost use Rattle.mirror_ops.specs.Updates.{Has, IsOneWith, TakesIn, fetched_in, fetched_of, has_fetched as has_fetched_of, same_members as same_members_of};
 
 use crate::early::named_mirror;
 use command_value::Command;
@@ -47,7 +43,7 @@ fn same_members(list: &PackageList, other: &PackageList) -> bool
 
 /// Whether the mirror has fetched just this already.
 fn has_fetched(mirror: &Mirror, list: &PackageList, date: &Text) -> bool
-    ensures { result ≡ has_fetched_of mirror.now.updated (record { date = date.now; list = list.now }) }
+    ensures { result ≡ has_fetched_of mirror.now.updated (fetched_of list.now date.now) }
 {
     match &mirror.updated {
         None => false,
@@ -62,7 +58,7 @@ fn fetched_by(
     list: &PackageList,
     date: &Text,
 ) -> Result<Mirror, AllocError>
-    ensures { IfOk result (λ made. made ≡ with_fetched (record { date = date.now; list = list.now }) mirror.now) }
+    ensures { IfOk result (λ made. made ≡ with_fetched (fetched_of list.now date.now) mirror.now) }
 {
     let mut made = mirror.copy(alloc)?;
     made.updated = Some(Fetched {
@@ -91,7 +87,7 @@ fn joined(
 
 /// The state with this mirror in the place of that of its name.
 fn with_mirror(alloc: Global, state: &State, made: Mirror) -> Result<State, AllocError>
-    ensures { (mirror : MirrorView) (fetched : Fetched) → IsAscending mirror_cmp state.now.mirrors → mirror_of made.name state.now.mirrors ≡ Some mirror → made ≡ with_fetched fetched mirror → IfOk result (λ new. new ≡ record state.now { mirrors = changed mirror_name made.name (with_fetched fetched) state.now.mirrors }) }
+    ensures { (fetched : Fetched) → Valid state.now → IsOneWith state.now fetched made → IfOk result (λ new. new ≡ fetched_in state.now made.name fetched) }
 {
     let mut state = state.copy(alloc)?;
     set_named(&mut state.mirrors, made);
@@ -106,7 +102,7 @@ fn state_with(
     list: &PackageList,
     date: &Text,
 ) -> Result<State, ChangeFault>
-    ensures same { IsAscending mirror_cmp state.now.mirrors → mirror_of mirror.now.name state.now.mirrors ≡ Some mirror.now → IfOk result (λ made. made ≡ updated state.now mirror.now.name (record { date = date.now; list = list.now })) }
+    ensures same { Valid state.now → Has state.now mirror.now → IfOk result (λ made. made ≡ updated state.now mirror.now.name (fetched_of list.now date.now)) }
     ensures fits { length (union state.now.known list.now) ≤ MOST_KNOWN → IfErr result IsMemory }
 {
     let known = joined(alloc, &state.known, list)?;
@@ -124,9 +120,9 @@ fn take_in(
     list: &PackageList,
     date: &Text,
 ) -> Result<Change, ChangeFault>
-    ensures taken { Valid state.now → mirror_of mirror.now.name state.now.mirrors ≡ Some mirror.now → FitsIn state.now mirror.now.name (record { date = date.now; list = list.now }) → IfOk result (λ change. taken_in state.now mirror.now.name (arrivals.List list.now date.now) ≡ came state.now change) }
-    ensures fits { FitsIn state.now mirror.now.name (record { date = date.now; list = list.now }) → IfErr result IsMemory }
-    ensures new { Valid state.now → mirror_of mirror.now.name state.now.mirrors ≡ Some mirror.now → IfOk result (λ change. IsNew state.now change.state) }
+    ensures taken { let fetched = fetched_of list.now date.now in Valid state.now → Has state.now mirror.now → FitsIn state.now mirror.now.name fetched → TakesIn state.now mirror.now fetched result }
+    ensures fits { FitsIn state.now mirror.now.name (fetched_of list.now date.now) → IfErr result IsMemory }
+    ensures new { Valid state.now → Has state.now mirror.now → IfOk result (λ change. IsNew state.now change.state) }
 {
     let reply = mirror_updated(alloc, &mirror.name, list.len() as u64)?;
     if has_fetched(mirror, list, date) {
@@ -145,8 +141,8 @@ fn update_named(
     name: &Text,
     arrived: &Arrived,
 ) -> Result<Change, ChangeFault>
-    ensures ok { (inbox : Option Files) → Valid state.now → ArrivesFor inbox state.now (update_case state.now name.now) arrived.now → IfOk result (ChangesTo state.now (update_case state.now name.now) arrived.now) }
-    ensures fault { (inbox : Option Files) → Valid state.now → ArrivesFor inbox state.now (update_case state.now name.now) arrived.now → IfErr result (FaultIs (IsRefusedFor None (update_case state.now name.now) arrived.now)) }
+    ensures ok { (inbox : Option Files) → ChangesWith inbox state.now (update_case state.now name.now) arrived.now result }
+    ensures fault { (inbox : Option Files) → RefusesWith inbox state.now (update_case state.now name.now) arrived.now result }
     ensures new { Valid state.now → IfOk result (λ change. IsNew state.now change.state) }
 {
     archives_fit();
@@ -167,8 +163,8 @@ pub fn update<M: Patterns>(
     arrived: &Arrived,
     _patterns: &mut M,
 ) -> Result<Change, ChangeFault>
-    ensures ok { (c : MirrorCommand) (inbox : Option Files) → plain command.now ≡ of_mirror c → IsUpdate c → Valid state.now → ArrivesFor inbox state.now (mirror_case state.now c) arrived.now → IfOk result (ChangesTo state.now (mirror_case state.now c) arrived.now) }
-    ensures fault { (c : MirrorCommand) (inbox : Option Files) → plain command.now ≡ of_mirror c → IsUpdate c → Valid state.now → ArrivesFor inbox state.now (mirror_case state.now c) arrived.now → IfErr result (FaultIs (IsRefusedFor None (mirror_case state.now c) arrived.now)) }
+    ensures ok { (c : MirrorCommand) (inbox : Option Files) → plain command.now ≡ of_mirror c → IsUpdate c → ChangesWith inbox state.now (mirror_case state.now c) arrived.now result }
+    ensures fault { (c : MirrorCommand) (inbox : Option Files) → plain command.now ≡ of_mirror c → IsUpdate c → RefusesWith inbox state.now (mirror_case state.now c) arrived.now result }
     // A state that is told is another one.
     ensures new { Valid state.now → IfOk result (λ change. IsNew state.now change.state) }
     ensures untouched { _patterns.new ≡ _patterns.old }

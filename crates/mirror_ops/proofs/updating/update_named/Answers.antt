@@ -1,4 +1,4 @@
-use Rattle.std.proofs.Common.{◌≡◌, ◌∙◌, ap, sym, subst, List, ℕ, Some, None, inr}
+use Rattle.std.proofs.Common.{◌≡◌, ◌∙◌, ap, sym, subst, List, ℕ, None, inr}
 use Rattle.std.proofs.lemmas.Result.{IfOk-weaker}
 use Rattle.machine_state.specs.declared.arrived.Arrived.TheVariants as arrivals
 use Rattle.machine_state.specs.State.{mirror_name, mirror_of}
@@ -7,6 +7,7 @@ use Rattle.mirror_update.specs.Fits.{FitsIn}
 use Rattle.step_model.specs.Case.{refuses}
 use Rattle.step_model.proofs.FaultLemmas.{at_exit, err_map, fault_first, fault_memory}
 use Rattle.mirror_ops.specs.Cases.{taken_in}
+use Rattle.mirror_ops.specs.Updates.{fetched_of}
 use Rattle.mirror_ops.proofs.UpdateCases.{arrived_fits, update_comes}
 use Rattle.mirror_ops.proofs.updating.update_named.Goals as goal
 
@@ -38,7 +39,7 @@ returns-in-List-clause-ok c = λ inbox v m.
     (ap (taken_in state name) c.in-List.is ∙ ap (λ (n : List ℕ). taken_in state n (arrivals.List c.in-List.list c.in-List.date)) (sym same) ∙ e))
     (c.take_in.ensures.taken v
     (ap (λ (n : List ℕ). mirror_of n state.mirrors) same ∙ found)
-    (subst (λ (n : List ℕ). FitsIn state n (record { date = c.in-List.date; list = c.in-List.list })) (sym same) fits))
+    (subst (λ (n : List ℕ). FitsIn state n (fetched_of c.in-List.list c.in-List.date)) (sym same) fits))
 
 pub returns-in-List-clause-fault : goal.returns-in-List-clause-fault
 returns-in-List-clause-fault c = λ inbox v m.
@@ -49,7 +50,7 @@ returns-in-List-clause-fault c = λ inbox v m.
     let same : mirror.name ≡ name = named_has mirror_name name state.mirrors mirror (c.in_ok-mirror.ensures.found v) in
     let fits = arrived_fits c.archives_fit.ensures.fits inbox state name c.args.arrived.now c.in-List.list c.in-List.date v good c.in-List.is m in
     err_map c.take_in.result _ _ (λ fault h. fault_memory _ fault h)
-    (c.take_in.ensures.fits (subst (λ (n : List ℕ). FitsIn state n (record { date = c.in-List.date; list = c.in-List.list })) (sym same) fits))
+    (c.take_in.ensures.fits (subst (λ (n : List ℕ). FitsIn state n (fetched_of c.in-List.list c.in-List.date)) (sym same) fits))
 
 pub returns-in-List-clause-new : goal.returns-in-List-clause-new
 returns-in-List-clause-new c = λ v.
