@@ -24,14 +24,9 @@ use Rattle.step_model.specs.Answers.{ComesTo, IsWanted}
 use Rattle.step_model.specs.Lawful.{IfChanges, IfRefuses, IsFrom, IsLawful}
 use Rattle.step_model.proofs.OwnLemmas.{OwnOr}
 use Rattle.step_model.proofs.RefusalLemmas.{passes, reads_on}
-<<<<<<< HEAD
-use Rattle.mirror_ops.specs.Cases.{ArchiveArrives, ArrivesFor, MayArrive, MirrorArrives, bad_mirror, taken_in, update_case}
-use Rattle.mirror_ops.proofs.LawLemmas.{line_some, own_called}
-=======
 use Rattle.mirror_ops.specs.Cases.{ArrivesFor, MayArrive, MirrorArrives, bad_mirror, taken_in, update_case}
 use Rattle.mirror_ops.specs.Updates.{Has, fetched_of}
-use Rattle.mirror_ops.proofs.LawLemmas.{line_some, own_mirror}
->>>>>>> 79625578f1217218df7b441ff9f59f2e2feacafb
+use Rattle.mirror_ops.proofs.LawLemmas.{line_some, own_called}
 
 -- ---- what it comes to
 

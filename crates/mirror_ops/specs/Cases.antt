@@ -134,9 +134,6 @@ MayArrive inbox state reading arrived = Unit {0}
 abbrev pub ArrivesFor : Option Files → StateView → Case → Arrived → Type 0
 ArrivesFor inbox state case arrived = MayArrive inbox state (reading case) arrived
 
-<<<<<<< HEAD
--- A command of mirrors reads nothing, or an archive. It has no conditions of its own then, and is refused so where the archive is.
-=======
 -- in a valid state the call tells what the case comes to, where this may have arrived for it
 abbrev pub ChangesWith : Option Files → StateView → Case → Arrived → Result Change ChangeFault → Type 0
 ChangesWith inbox state case arrived result = Valid state → ArrivesFor inbox state case arrived → IfOk result (ChangesTo state case arrived)
@@ -150,8 +147,7 @@ abbrev pub RefusedWith : {B : Type 0} → Builder B → B → B → Option Files
 RefusedWith builder old new inbox state c arrived result =
     Valid state → ArrivesFor inbox state (mirror_case state c) arrived → IfErr result (RefusedBy builder old new (mirror_case state c) arrived)
 
--- a command of mirrors reads nothing, or an archive, and has no conditions of its own then
->>>>>>> 79625578f1217218df7b441ff9f59f2e2feacafb
+-- A command of mirrors reads nothing, or an archive. It has no conditions of its own then, and is refused so where the archive is.
 abbrev pub ReadsArchive : Case → Reading → Type 0
 ReadsArchive case readings.Nothing = Unit {0}
 ReadsArchive case (readings.Mirror name) = (case.conditions ≡ []) × ((refusal : Refusal) → case.comes (arrivals.Refused refusal) ≡ refuses refusal)
