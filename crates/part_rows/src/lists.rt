@@ -70,6 +70,21 @@ fn list_at<'a>(lists: &'a [PackageList], raw: &str) -> Result<&'a PackageList, S
     }
 }
 
+/// The later list comes to the list, as the call says.
+fn combine_into(
+    alloc: Global,
+    call: &str,
+    list: &mut PackageList,
+    later: &PackageList,
+) -> Result<(), ListFault> {
+    match call {
+        "merge" => list.merge_from(alloc, later),
+        "latest" => list.latest_from(alloc, later),
+        "append" => list.append_from(alloc, later),
+        _ => list.join_known(alloc, later),
+    }
+}
+
 /// A copy of the list, to which the later one came.
 fn combined(
     alloc: Global,
@@ -78,12 +93,7 @@ fn combined(
     later: &PackageList,
 ) -> Result<PackageList, ListFault> {
     let mut made = list.copy(alloc)?;
-    match call {
-        "merge" => made.merge_from(alloc, later)?,
-        "latest" => made.latest_from(alloc, later)?,
-        "append" => made.append_from(alloc, later)?,
-        _ => made.join_known(alloc, later)?,
-    }
+    combine_into(alloc, call, &mut made, later)?;
     Ok(made)
 }
 
@@ -109,19 +119,23 @@ fn equal(desk: &Desk, out: &mut String, rest: &str) -> Result<(), Stop> {
     let (list, rest) = first_word(rest)?;
     let list = list_at(&desk.lists, list)?;
     let wanted = package_of(desk, rest)?;
-    Ok(put_equal(out, list, &wanted)?)
+    let done = put_equal(out, list, &wanted);
+    drop(wanted);
+    Ok(done?)
 }
 
 /// Takes the package of a text out of a list; whether it was there.
-fn take_out(desk: &Desk, list: &mut PackageList, rest: &str) -> Result<bool, Stop> {
+fn take_out(desk: &Desk, out: &mut String, list: &mut PackageList, rest: &str) -> Result<(), Stop> {
     let gone = package_of(desk, rest)?;
-    Ok(list.remove(&gone))
+    let was_there = list.remove(&gone);
+    drop(gone);
+    Ok(put(out, &[yes_or_no(was_there), " "])?)
 }
 
 /// A copy of a list without a package, and whether it had it.
 fn remove(desk: &mut Desk, out: &mut String, rest: &str) -> Result<(), Stop> {
     let (list, rest) = first_word(rest)?;
     let mut made = list_at(&desk.lists, list)?.copy(desk.alloc)?;
-    put(out, &[yes_or_no(take_out(desk, &mut made, rest)?), " "])?;
+    take_out(desk, out, &mut made, rest)?;
     keep(&mut desk.lists, out, Ok(made))
 }

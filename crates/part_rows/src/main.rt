@@ -51,23 +51,30 @@ fn answer(desk: &mut Desk, number: u64, line: &str) -> Result<String, AllocError
     answered(out, number, played)
 }
 
-fn main(rt: HostRuntime) -> io::Result<()> {
-    let text = io::read_to_string(rt.alloc(), rt.reader())?;
-    let mut desk = Desk::new(rt.alloc());
+/// Prints the answers to the lines of a table.
+fn play_lines(rt: &HostRuntime, desk: &mut Desk, text: &str) -> io::Result<()> {
     let mut number = 0u64;
     let mut open = false;
-    for line in text.as_str().lines() {
+    for line in text.lines() {
         number = number.saturating_add(1);
         if open {
-            open = extend_base(&mut desk, line)?;
+            open = extend_base(desk, line)?;
         } else if line == "base" {
             desk.base.clear();
             open = true;
         } else if line.starts_with('#') {
             rt.println(line)?;
         } else if !line.is_empty() {
-            rt.print(answer(&mut desk, number, line)?.as_str())?;
+            rt.print(answer(desk, number, line)?.as_str())?;
         }
     }
     Ok(())
+}
+
+fn main(rt: HostRuntime) -> io::Result<()> {
+    let text = io::read_to_string(rt.alloc(), rt.reader())?;
+    let mut desk = Desk::new(rt.alloc());
+    let done = play_lines(&rt, &mut desk, text.as_str());
+    drop(desk);
+    done
 }

@@ -39,19 +39,35 @@ fn package_name(desk: &Desk, out: &mut String, rest: &str) -> Result<(), Stop> {
     Ok(out.push_str(yes_or_no(is_package_name(text.as_str())))?)
 }
 
+/// Whether a name and a copy of another one are the same, and their order.
+fn put_name_order(out: &mut String, a: &Name, b: &Name) -> Result<(), Stop> {
+    let b = b.copy(*out.allocator())?;
+    put_order(out, a.is(&b), a.order(&b))
+}
+
 fn name_order(desk: &Desk, out: &mut String, rest: &str) -> Result<(), Stop> {
     let (left, right) = first_word(rest)?;
     let a = desk.name(left)?;
-    let b = desk.name(right)?.copy(desk.alloc)?;
+    let b = desk.name(right)?;
+    put_name_order(out, &a, &b)
+}
+
+/// Whether a text and a copy of another one are the same, and their order.
+fn put_text_order(out: &mut String, a: &Text, b: &Text) -> Result<(), Stop> {
+    let b = b.copy(*out.allocator())?;
     put_order(out, a.is(&b), a.order(&b))
+}
+
+fn put_two_texts(out: &mut String, left: &str, right: &str) -> Result<(), Stop> {
+    let a = Text::new(*out.allocator(), left)?;
+    let b = Text::new(*out.allocator(), right)?;
+    put_text_order(out, &a, &b)
 }
 
 fn text_order(desk: &Desk, out: &mut String, rest: &str) -> Result<(), Stop> {
     let (left, right) = first_word(rest)?;
     let (left, right) = (desk.word(left)?, desk.word(right)?);
-    let a = Text::new(desk.alloc, left.as_str())?;
-    let b = Text::new(desk.alloc, right.as_str())?.copy(desk.alloc)?;
-    put_order(out, a.is(&b), a.order(&b))
+    put_two_texts(out, left.as_str(), right.as_str())
 }
 
 /// The number that a word is in decimal, written again.
@@ -76,23 +92,37 @@ fn two_paths(desk: &Desk, rest: &str) -> Result<(SafePath, SafePath), Stop> {
     Ok((desk.path(left)?, desk.path(right)?))
 }
 
-/// Whether the two are the same, their order, and whether the first is below the second.
+/// Whether two paths are the same, their order, and whether the first is below the second.
+fn put_path_order(out: &mut String, a: &SafePath, b: &SafePath) -> Result<(), Stop> {
+    put_order(out, a.is(b), a.order(b))?;
+    Ok(put(out, &[" ", yes_or_no(a.is_below(b))])?)
+}
+
+/// The same of a path and a copy of another one.
+fn put_copy_order(out: &mut String, a: &SafePath, b: &SafePath) -> Result<(), Stop> {
+    let b = b.copy(*out.allocator())?;
+    put_path_order(out, a, &b)
+}
+
 fn path_order(desk: &Desk, out: &mut String, rest: &str) -> Result<(), Stop> {
     let (a, b) = two_paths(desk, rest)?;
-    let b = b.copy(desk.alloc)?;
-    put_order(out, a.is(&b), a.order(&b))?;
-    Ok(put(out, &[" ", yes_or_no(a.is_below(&b))])?)
+    put_copy_order(out, &a, &b)
 }
 
 /// A numbered path below a folder, and that one joined to the folder once more.
-fn made(desk: &Desk, out: &mut String, rest: &str) -> Result<(), Stop> {
-    let (folder, number) = first_word(rest)?;
-    let folder = desk.path(folder)?;
+fn put_numbered(out: &mut String, folder: &SafePath, number: u64) -> Result<(), Stop> {
     if folder.as_str().len() > 400 {
         return Err(Stop::NoCall);
     }
-    let made = SafePath::numbered(desk.alloc, &folder, number_of(number)?)?;
-    put_joined(out, &folder, &made)
+    let made = SafePath::numbered(*out.allocator(), folder, number)?;
+    put_joined(out, folder, &made)
+}
+
+fn made(desk: &Desk, out: &mut String, rest: &str) -> Result<(), Stop> {
+    let (folder, number) = first_word(rest)?;
+    let number = number_of(number)?;
+    let folder = desk.path(folder)?;
+    put_numbered(out, &folder, number)
 }
 
 /// A path, and that one joined to the folder.

@@ -58,13 +58,25 @@ fn put_given(
 }
 
 /// The path of a file of the pool, whether it and another one are there, its length and its bytes.
+fn put_pool(
+    out: &mut String,
+    host: &mut MemHost,
+    sha256: &[u8; 32],
+    bytes: &[u8],
+) -> Result<(), AllocError> {
+    put_path(out, sha256)?;
+    put_there(out, host, sha256)?;
+    put_given(out, host, sha256, bytes)
+}
+
+/// The same of a store whose pool has this text.
 fn given(desk: &Desk, out: &mut String, rest: &str) -> Result<(), Stop> {
     let bytes = desk.bytes(rest)?;
     let sha256 = digests_of(&bytes).sha256;
     let mut host = store_of(desk, &sha256, &bytes)?;
-    put_path(out, &sha256)?;
-    put_there(out, &mut host, &sha256)?;
-    Ok(put_given(out, &mut host, &sha256, &bytes)?)
+    let done = put_pool(out, &mut host, &sha256, &bytes);
+    drop(host);
+    Ok(done?)
 }
 
 /// An inbox whose files have a length and give no byte.
@@ -119,5 +131,7 @@ fn take_hollow(desk: &Desk, out: &mut String, rest: &str) -> Result<(), Stop> {
         Vec::new(desk.alloc),
         false,
     )?;
-    put_hollow(out, &mut host, &path, size)
+    let done = put_hollow(out, &mut host, &path, size);
+    drop(host);
+    done
 }

@@ -16,7 +16,11 @@ pub fn play(desk: &Desk, out: &mut String, call: &str, rest: &str) -> Result<(),
 
 fn tree(desk: &Desk, out: &mut String, text: &str) -> Result<(), Stop> {
     match read_query(desk.alloc, text) {
-        Ok(query) => reply(out, query.copy(desk.alloc)?),
+        Ok(query) => {
+            let copy = query.copy(desk.alloc);
+            drop(query);
+            reply(out, copy?)
+        }
         Err(fault) => reply(out, fault),
     }
 }
@@ -30,7 +34,11 @@ fn put_written(out: &mut String, query: &Query) -> Result<(), Stop> {
 /// The text of a query that was read.
 fn write(out: &mut String, read: Result<Query, QueryFault>) -> Result<(), Stop> {
     match read {
-        Ok(query) => put_written(out, &query),
+        Ok(query) => {
+            let done = put_written(out, &query);
+            drop(query);
+            done
+        }
         Err(fault) => reply(out, fault),
     }
 }

@@ -8,7 +8,9 @@ use std::alloc::AllocError;
 
 pub fn play(desk: &Desk, out: &mut String, call: &str, rest: &str) -> Result<(), Stop> {
     let refusal = refusal_of(desk, call, rest)?;
-    Ok(put_copy(out, &refusal)?)
+    let done = put_copy(out, &refusal);
+    drop(refusal);
+    Ok(done?)
 }
 
 /// The refusal that a call is about.
@@ -38,7 +40,9 @@ fn put_line(out: &mut String, refusal: &Refusal) -> Result<(), AllocError> {
 /// The line of a refusal, as a copy has it.
 fn put_copy(out: &mut String, refusal: &Refusal) -> Result<(), AllocError> {
     let copy = refusal.copy(*out.allocator())?;
-    put_line(out, &copy)
+    let done = put_line(out, &copy);
+    drop(copy);
+    done
 }
 
 fn kind_of(word: &str) -> Result<Kind, Stop> {

@@ -19,7 +19,21 @@ fn put_read(out: &mut String, state: &State, text: &[u8]) -> Result<(), AllocErr
 /// The same of a copy of the state.
 fn put_copy(out: &mut String, state: &State, text: &[u8]) -> Result<(), AllocError> {
     let copy = state.copy(*out.allocator())?;
-    put_read(out, &copy, text)
+    let done = put_read(out, &copy, text);
+    drop(copy);
+    done
+}
+
+/// What the text of a root holds, or the line of its fault.
+fn read(out: &mut String, text: &[u8]) -> Result<(), Stop> {
+    match read_root(*out.allocator(), text) {
+        Ok(state) => {
+            let done = put_copy(out, &state, text);
+            drop(state);
+            Ok(done?)
+        }
+        Err(fault) => reply(out, fault),
+    }
 }
 
 pub fn play(desk: &Desk, out: &mut String, call: &str, rest: &str) -> Result<(), Stop> {
@@ -27,8 +41,5 @@ pub fn play(desk: &Desk, out: &mut String, call: &str, rest: &str) -> Result<(),
         return Err(Stop::NoCall);
     };
     let bytes = desk.bytes(rest)?;
-    match read_root(desk.alloc, &bytes) {
-        Ok(state) => Ok(put_copy(out, &state, &bytes)?),
-        Err(fault) => reply(out, fault),
-    }
+    read(out, &bytes)
 }

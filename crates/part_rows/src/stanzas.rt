@@ -7,8 +7,8 @@ use std::alloc::AllocError;
 
 pub fn play(desk: &Desk, out: &mut String, call: &str, rest: &str) -> Result<(), Stop> {
     match call {
-        "read" => put_read(out, read_stanzas(desk.alloc, &desk.bytes(rest)?)),
-        "stored" => put_read(out, read_stored(desk.alloc, &desk.bytes(rest)?)),
+        "read" => read(desk, out, rest),
+        "stored" => stored(desk, out, rest),
         "count" => count(desk, out, rest),
         "get" => get(desk, out, rest),
         "without" => without(desk, out, rest),
@@ -18,23 +18,44 @@ pub fn play(desk: &Desk, out: &mut String, call: &str, rest: &str) -> Result<(),
 
 type Read = Result<Vec<(u64, Stanza)>, StanzaFault>;
 
+/// How many stanzas there are, and each of them.
+fn put_found(out: &mut String, found: &Vec<(u64, Stanza)>) -> Result<(), Stop> {
+    found.put(out)?;
+    put_stanzas(out, found)
+}
+
 /// How many stanzas there are, and each of them, or the fault.
 fn put_read(out: &mut String, read: Read) -> Result<(), Stop> {
     match read {
         Ok(found) => {
-            found.put(out)?;
-            put_stanzas(out, &found)
+            let done = put_found(out, &found);
+            drop(found);
+            done
         }
         Err(fault) => reply(out, fault),
     }
 }
 
+fn read(desk: &Desk, out: &mut String, rest: &str) -> Result<(), Stop> {
+    let bytes = desk.bytes(rest)?;
+    put_read(out, read_stanzas(desk.alloc, &bytes))
+}
+
+fn stored(desk: &Desk, out: &mut String, rest: &str) -> Result<(), Stop> {
+    let bytes = desk.bytes(rest)?;
+    put_read(out, read_stored(desk.alloc, &bytes))
+}
+
 /// What either reader answers, without the stanzas.
+fn put_counts(out: &mut String, bytes: &[u8]) -> Result<(), Stop> {
+    reply(out, read_stanzas(*out.allocator(), bytes))?;
+    put(out, &["; "])?;
+    reply(out, read_stored(*out.allocator(), bytes))
+}
+
 fn count(desk: &Desk, out: &mut String, rest: &str) -> Result<(), Stop> {
     let bytes = desk.bytes(rest)?;
-    reply(out, read_stanzas(desk.alloc, &bytes))?;
-    put(out, &["; "])?;
-    reply(out, read_stored(desk.alloc, &bytes))
+    put_counts(out, &bytes)
 }
 
 /// The last stanza of a text that has to be readable.
@@ -62,13 +83,17 @@ fn get(desk: &Desk, out: &mut String, rest: &str) -> Result<(), Stop> {
     let (name, rest) = first_word(rest)?;
     let name = desk.word(name)?;
     let stanza = last_stanza(desk, rest)?;
-    Ok(put_value(out, &stanza, name.as_str())?)
+    let done = put_value(out, &stanza, name.as_str());
+    drop(stanza);
+    Ok(done?)
 }
 
 /// A stanza's text, as a copy has it.
 fn put_copy(out: &mut String, stanza: &Stanza) -> Result<(), Stop> {
     let copy = stanza.copy(*out.allocator())?;
-    put_stanza(out, &copy)
+    let done = put_stanza(out, &copy);
+    drop(copy);
+    done
 }
 
 /// The last stanza without a field.
@@ -77,5 +102,7 @@ fn without(desk: &Desk, out: &mut String, rest: &str) -> Result<(), Stop> {
     let name = desk.word(name)?;
     let mut stanza = last_stanza(desk, rest)?;
     stanza.remove(name.as_str());
-    put_copy(out, &stanza)
+    let done = put_copy(out, &stanza);
+    drop(stanza);
+    done
 }

@@ -42,14 +42,20 @@ fn put_marks(desk: &Desk, out: &mut String, prepared: &Prepared) -> Result<(), A
 fn put_truth(desk: &Desk, out: &mut String, query: &Query) -> Result<(), Stop> {
     let mut patterns = RegexPatterns::new(desk.alloc);
     match Prepared::new(desk.alloc, query, &mut patterns) {
-        Ok(prepared) => Ok(put_marks(desk, out, &prepared)?),
+        Ok(prepared) => {
+            let done = put_marks(desk, out, &prepared);
+            drop(prepared);
+            Ok(done?)
+        }
         Err(fault) => reply(out, fault),
     }
 }
 
 fn of(desk: &Desk, out: &mut String, rest: &str) -> Result<(), Stop> {
     let query = query_of(desk, rest)?;
-    put_truth(desk, out, &query)
+    let done = put_truth(desk, out, &query);
+    drop(query);
+    done
 }
 
 /// A builder that finds the pattern of this ordinal, counted from 0, too large.
@@ -59,14 +65,24 @@ fn failing_at(desk: &Desk, raw: &str) -> Result<MemPatterns, Stop> {
     Ok(MemPatterns::new(desk.alloc, failing))
 }
 
+/// Whether a query is prepared where this builder makes its patterns.
+fn put_failing(out: &mut String, query: &Query, patterns: &mut MemPatterns) -> Result<(), Stop> {
+    match Prepared::new(*out.allocator(), query, patterns) {
+        Ok(prepared) => {
+            drop(prepared);
+            Ok(out.push_str("prepared")?)
+        }
+        Err(fault) => reply(out, fault),
+    }
+}
+
 fn failing(desk: &Desk, out: &mut String, rest: &str) -> Result<(), Stop> {
     let (ordinal, rest) = first_word(rest)?;
     let mut patterns = failing_at(desk, ordinal)?;
     let query = query_of(desk, rest)?;
-    match Prepared::new(desk.alloc, &query, &mut patterns) {
-        Ok(_) => Ok(out.push_str("prepared")?),
-        Err(fault) => reply(out, fault),
-    }
+    let done = put_failing(out, &query, &mut patterns);
+    drop(query);
+    done
 }
 
 /// The first alternative of a field that has to be readable.
@@ -96,12 +112,19 @@ fn put_satisfied(
     Ok(())
 }
 
+/// The same of the alternative of a text.
+fn put_satisfied_of(desk: &Desk, out: &mut String, arch: &Name, rest: &str) -> Result<(), Stop> {
+    let alternative = alternative_of(desk, rest)?;
+    let done = put_satisfied(desk, out, &alternative, arch);
+    drop(alternative);
+    Ok(done?)
+}
+
 /// The same of an architecture and the alternative of a text.
 fn satisfied(desk: &Desk, out: &mut String, rest: &str) -> Result<(), Stop> {
     let (arch, rest) = first_word(rest)?;
     let arch = desk.name(arch)?;
-    let alternative = alternative_of(desk, rest)?;
-    Ok(put_satisfied(desk, out, &alternative, &arch)?)
+    put_satisfied_of(desk, out, &arch, rest)
 }
 
 fn glob(desk: &Desk, out: &mut String, rest: &str) -> Result<(), Stop> {

@@ -16,12 +16,21 @@ pub fn play(desk: &Desk, out: &mut String, call: &str, rest: &str) -> Result<(),
 
 type Read = Result<Version, VersionFault>;
 
-fn read(desk: &Desk, out: &mut String, rest: &str) -> Result<(), Stop> {
-    let text = desk.word(rest)?;
-    match Version::parse(desk.alloc, text.as_str()) {
-        Ok(version) => reply(out, version.copy(desk.alloc)?),
+/// A copy of a version that was read, or the fault.
+fn put_read(out: &mut String, read: Read) -> Result<(), Stop> {
+    match read {
+        Ok(version) => {
+            let copy = version.copy(*out.allocator());
+            drop(version);
+            reply(out, copy?)
+        }
         Err(fault) => reply(out, fault),
     }
+}
+
+fn read(desk: &Desk, out: &mut String, rest: &str) -> Result<(), Stop> {
+    let text = desk.word(rest)?;
+    put_read(out, Version::parse(desk.alloc, text.as_str()))
 }
 
 fn two(desk: &Desk, rest: &str) -> Result<(Read, Read), Stop> {
@@ -32,15 +41,20 @@ fn two(desk: &Desk, rest: &str) -> Result<(Read, Read), Stop> {
 }
 
 /// The sign between two versions, or which of them is none.
-fn order(desk: &Desk, out: &mut String, rest: &str) -> Result<(), Stop> {
-    let (first, second) = two(desk, rest)?;
-    let answer = match (&first, &second) {
+fn order_of(both: &(Read, Read)) -> &'static str {
+    match both {
         (Ok(a), Ok(b)) => sign_of(compare(a, b)),
         (Err(_), Ok(_)) => "first",
         (Ok(_), Err(_)) => "second",
         (Err(_), Err(_)) => "both",
-    };
-    Ok(out.push_str(answer)?)
+    }
+}
+
+fn order(desk: &Desk, out: &mut String, rest: &str) -> Result<(), Stop> {
+    let both = two(desk, rest)?;
+    let order = order_of(&both);
+    drop(both);
+    Ok(out.push_str(order)?)
 }
 
 const RELATIONS: [Relation; 5] = [
@@ -61,18 +75,30 @@ fn put_met(out: &mut String, a: &Version, b: &Version) -> Result<(), Stop> {
     Ok(())
 }
 
-fn met(desk: &Desk, out: &mut String, rest: &str) -> Result<(), Stop> {
-    let (first, second) = two(desk, rest)?;
-    match (&first, &second) {
+fn put_met_of(out: &mut String, both: &(Read, Read)) -> Result<(), Stop> {
+    match both {
         (Ok(a), Ok(b)) => put_met(out, a, b),
         _ => Err(Stop::NoCall),
     }
 }
 
-fn texts(desk: &Desk, out: &mut String, rest: &str) -> Result<(), Stop> {
-    let (first, second) = two(desk, rest)?;
-    match (&first, &second) {
+fn met(desk: &Desk, out: &mut String, rest: &str) -> Result<(), Stop> {
+    let both = two(desk, rest)?;
+    let done = put_met_of(out, &both);
+    drop(both);
+    done
+}
+
+fn put_texts(out: &mut String, both: &(Read, Read)) -> Result<(), Stop> {
+    match both {
         (Ok(a), Ok(b)) => put_order(out, a.is(b), a.text_order(b)),
         _ => Err(Stop::NoCall),
     }
+}
+
+fn texts(desk: &Desk, out: &mut String, rest: &str) -> Result<(), Stop> {
+    let both = two(desk, rest)?;
+    let done = put_texts(out, &both);
+    drop(both);
+    done
 }
