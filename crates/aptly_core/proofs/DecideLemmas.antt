@@ -35,6 +35,7 @@ use Rattle.step_model.specs.Refuses.{IsReadable}
 use Rattle.mirror_update.specs.Answers.{Brings, Updates}
 use Rattle.mirror_ops.specs.Cases.{MirrorArrives}
 use Rattle.machine_step.specs.Step.{CanBeRead, Given, MayArrive, NoArchive, Step, StepWith, case_of, read_for}
+use Rattle.machine_step.proofs.ArchiveLemmas.{archive_any, refused_archive}
 use Rattle.machine_step.proofs.StepLaws.{knows, readable, refuses}
 use Rattle.aptly_core.specs.declared.fault.RunFault.{RunFault}
 use Rattle.aptly_core.specs.Arrives.{Arrives, Decides, IsReading, arrived_of}
@@ -172,6 +173,16 @@ decides_so Fits reading given s c before now arrived out so step l ops w = recor
     go None all = tt
     go (Some t) all = all
 
+-- the state stays, whatever arrived
+pub decides_kept : (Fits : Type 0) (reading : Reading) (given : Given) (s : StateView) (c : PlainCommand) (before now : StageState) (came : Result Arrived RunFault) (out : Made) → (Fits → IsReading given.now s c reading) → out.state ≡ None → (l : Log) (ops : List Op) → Arrives given.inbox s reading before now came l ops → Decides Fits given s c before now (Ok out) l ops
+decides_kept Fits reading given s c before now came out so none l ops w = record {
+  grows = w.grows;
+  nothing = λ fits read. w.nothing (reads_nothing given.now s c reading (so fits) read);
+  step = w.step;
+  apart = w.apart;
+  bodies = λ fits stored apart. subst (λ (x : Option StateView). IfSome x (λ t. All (HasBody (live_of (extended ops l))) t.known)) (sym none) tt;
+}
+
 -- it broke off behind what arrived
 pub decides_broke : (Fits : Type 0) (reading : Reading) (given : Given) (s : StateView) (c : PlainCommand) (before now : StageState) (came : Result Arrived RunFault) (r : Result Made RunFault) (e : RunFault) → (Fits → IsReading given.now s c reading) → r ≡ Err e → (l : Log) (ops : List Op) → Arrives given.inbox s reading before now came l ops → Decides Fits given s c before now r l ops
 decides_broke Fits reading given s c before now came r e so is l ops w = subst (λ v. Decides Fits given s c before now v l ops) (sym is) (record { grows = w.grows; nothing = λ fits none. w.nothing (reads_nothing given.now s c reading (so fits) none); step = w.step; apart = w.apart; bodies = tt })
@@ -237,3 +248,28 @@ told_wider old mid new refused (Some text) le told = (omega (arith, le, told.0),
 pub comes_wider : (given : Given) (old mid new : ℕ) (refused : Option (List ℕ)) (s : StateView) (c : PlainCommand) (r : Result Made RunFault) → old ≤ mid → IfOk r (λ outcome. Told mid new refused (λ large. Step given large s c (seen s outcome))) → IfOk r (λ outcome. Told old new refused (λ large. Step given large s c (seen s outcome)))
 comes_wider given old mid new refused s c (Ok out) le w = (w.0, told_wider old mid new refused w.0 le w.1, w.2)
 comes_wider given old mid new refused s c (Err e) le w = tt
+
+-- ---- an archive
+
+pub archive_reads : (name : List ℕ) → readings.Mirror name ≡ readings.Nothing → ⊥
+archive_reads name e = cc
+
+module _ (given : Given) (s : StateView) (c : PlainCommand) (name : List ℕ) (is : readings.Mirror name ≡ read_for given.now s c) where
+  can_read : CanBeRead (case_of given.now s c) (readings.Mirror name)
+  can_read = subst (CanBeRead (case_of given.now s c)) (sym is) (readable given.now s c)
+
+  -- what arrived of the archive may arrive for the command
+  pub archive_for : (large : Option (List ℕ)) (arrived : Arrived) → MayArrive given large s (readings.Mirror name) arrived → MayArrive given large s (read_for given.now s c) arrived
+  archive_for large arrived may = subst (λ (x : Reading). MayArrive given large s x arrived) is may
+
+  -- where the archive is refused the command comes to that
+  pub archive_refused : (old new : ℕ) (refused : Option (List ℕ)) (refusal : Refusal) (out : Made) → out ≡ record { state = None; reply = refusal_line refusal; refusal = Some refusal }
+      → Told old new refused (λ large. MayArrive given large s (readings.Mirror name) (arrivals.Refused refusal)) → Told old new refused (λ large. Step given large s c (seen s out))
+  archive_refused old new refused refusal out e told =
+      (told.0, told.1, subst (Step given told.0 s c) (sym (ap (seen s) e)) (refused_archive given told.0 s c name refusal is can_read told.2))
+
+  -- where it isn't the step is made with what arrived
+  pub archive_comes : (old mid new : ℕ) (refused before : Option (List ℕ)) (arrived : Arrived) (out : Made) → old ≤ mid → ((refusal : Refusal) → arrived ≡ arrivals.Refused refusal → ⊥)
+      → (told : Told old mid before (λ large. MayArrive given large s (readings.Mirror name) arrived)) → Told mid new refused (λ large. StepWith given.now large s c arrived (seen s out)) → Told old new refused (λ large. Step given large s c (seen s out))
+  archive_comes old mid new refused before arrived out le none told w =
+      (w.0, told_wider old mid new refused w.0 le w.1, (arrived, archive_for w.0 arrived (archive_any given told.0 w.0 s name arrived none told.2), w.2))
